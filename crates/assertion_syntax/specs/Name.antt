@@ -15,10 +15,12 @@ use Rattle.assertion_syntax.specs.declared.name.SignalName.{SignalName}
 abbrev pub is_base_byte : ℕ → Bool
 is_base_byte b = is_ascii_alphanumeric b || (b == 32 || (b == 95 || (b == 35 || b == 36)))
 
--- Each space is between two other bytes. At the start, and after a space, there is no space and the text does not end.
+-- Each space is between two other bytes. At the start, and after a space, there is no space and the
+-- text does not end.
 abbrev pub well_spaced : Bool → List ℕ → Bool
 well_spaced behind_byte [] = behind_byte
-well_spaced behind_byte (b ∷ bs) = if b == 32 then behind_byte && well_spaced false bs else well_spaced true bs
+well_spaced behind_byte (b ∷ bs) =
+    if b == 32 then behind_byte && well_spaced false bs else well_spaced true bs
 
 pub record IsBase (base : List ℕ) : Type 0 where
   pub bytes : list_all is_base_byte base ≡ true

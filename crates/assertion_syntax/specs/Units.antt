@@ -4,8 +4,8 @@ use Rattle.std.specs.List.{list_any}
 use Rattle.scald_base.specs.declared.assertion.Span.{Span}
 use Rattle.scald_base.specs.Span.{holds_unit}
 
--- An interval that begins in unit `begin` ends before unit `end`: of each beginning the greatest end is
--- kept.
+-- An interval that begins in unit `begin` ends before unit `end`: of each beginning the greatest
+-- end is kept.
 abbrev pub longer : List ℕ → ℕ → ℕ → List ℕ
 longer ends begin end = slice_set ends begin (max (slice_index_or ends begin 0) end)
 
@@ -34,4 +34,5 @@ pub record AreEnds (units : ℕ) (ends : List ℕ) (spans : List Span) : Type 0 
 
 -- This says of each unit of the period whether it is of an interval.
 abbrev pub AreHeld : ℕ → List Bool → List Span → Type 0
-AreHeld units held spans = (unit : ℕ) → unit < units → slice_index_or held unit false ≡ is_held spans unit
+AreHeld units held spans =
+    (unit : ℕ) → unit < units → slice_index_or held unit false ≡ is_held spans unit

@@ -26,8 +26,8 @@ pub enum NameFault {
 }
 
 /// Whether the assertion is one for this header: `BadName` exactly where an interval is not one of
-/// its units, and then `EdgesOverlap` exactly where the regions of two edges of a `.C` clock share a
-/// slot, or one is longer than the period.
+/// its units, and then `EdgesOverlap` exactly where the regions of two edges of a `.C` clock share
+/// a slot, or one is longer than the period.
 pub fn fits(spec: &AssertSpec, h: &Header) -> Result<(), NameFault>
     ensures { MatchResult result (λ _. Fits h.now spec.now) (IsFaultOf h.now spec.now) }
 {
@@ -83,13 +83,14 @@ fn skew(clock: &ClockSpec, h: &Header) -> (u16, u16)
     clock.skew.unwrap_or(h.cskew)
 }
 
-/// Whether two edges are at most so many ticks apart. An edge and the same edge a period on count as
-/// two, so that one whose region is longer than the period is found as well. The units of the
+/// Whether two edges are at most so many ticks apart. An edge and the same edge a period on count
+/// as two, so that one whose region is longer than the period is found as well. The units of the
 /// clock's intervals are given.
 fn are_near(clock: &ClockSpec, held: &[bool; UNITS], h: &Header, reach: u32) -> bool
     requires size { length held.now ≡ 4096 }
     requires are { AreHeld h.now.units held.now clock.now.spans }
-    ensures { let near = AreNear (steps clock.now h.now) reach (2 * period h.now) in MatchBool result near (¬ near) }
+    ensures { let near = AreNear (steps clock.now h.now) reach (2 * period h.now) in
+        MatchBool result near (¬ near) }
 {
     let mut last = None;
     'ticks: for tick in 0..2 * h.period() {

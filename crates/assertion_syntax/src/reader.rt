@@ -33,7 +33,8 @@ pub fn one_name()
 
 /// A name has one text alone.
 pub fn one_text()
-    ensures { (n : SignalName) (text other : List ℕ) → IsTextOf n text → IsTextOf n other → text ≡ other }
+    ensures { (n : SignalName) (text other : List ℕ) → IsTextOf n text → IsTextOf n other →
+        text ≡ other }
 {}
 
 /// The bytes after a word.
@@ -105,7 +106,8 @@ fn span(rest: &[u8]) -> Option<(Span, &[u8])>
 
 /// One interval or more, with commas between them.
 fn spans(alloc: Global, text: &[u8]) -> Result<Option<(Spans, &[u8])>, NoMemory>
-    ensures { IfOk result (λ read. Gives (λ x. (x.0, x.1.now)) read (spans_at (length text.now) text.now)) }
+    ensures { IfOk result (λ read.
+        Gives (λ x. (x.0, x.1.now)) read (spans_at (length text.now) text.now)) }
 {
     let mut spans = Spans::new(alloc);
     let mut rest = text;

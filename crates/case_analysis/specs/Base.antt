@@ -18,9 +18,11 @@ base_round c = round c (is_driven c) (base_start c)
 abbrev pub IsBase : Circuit → ℕ → ℕ → Waves → Type 0
 IsBase c limit r ws = AreAtRest c (is_driven c) (base_start c) limit r ws
 
--- Waves after so many rounds permit every run whose inputs keep their assertions, from so many reaches on.
+-- Waves after so many rounds permit every run whose inputs keep their assertions, from so many
+-- reaches on.
 abbrev pub PermitInputs : Circuit → ℕ → Waves → Type 0
-PermitInputs c rounds ws = (run : Run) → IsRun c run → MeetsInterface c run → PermitRun c run ws (rounds * reach c + 1)
+PermitInputs c rounds ws =
+    (run : Run) → IsRun c run → MeetsInterface c run → PermitRun c run ws (rounds * reach c + 1)
 
 -- nothing drives either net, and both assert the same
 pub record AreAssertedAlike (m n : Net) : Type 0 where

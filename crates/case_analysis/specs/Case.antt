@@ -1,4 +1,5 @@
--- Cases: nets that keep a value for ever, the nets that this may reach, and the rounds that begin with it.
+-- Cases: nets that keep a value for ever, the nets that this may reach, and the rounds that begin
+-- with it.
 use Rattle.std.specs.Prelude.{◌≡◌, ◌↔◌, ℕ, ◌+◌, ◌*◌, ◌<◌, ◌==◌, Bool, true, false, ◌&&◌, List, [], length, slice_index_or, Option, Some, None}
 use Rattle.std.specs.List.{All, list_any}
 use Rattle.scald_base.specs.Time.{Header}
@@ -33,11 +34,13 @@ NetsExist c values = All (λ (v : CaseValue). v.net < length c.nets) values
 
 -- each of its nets is constant in the run, at its value
 abbrev pub IsInCase : List CaseValue → Run → Type 0
-IsInCase values run = All (λ (v : CaseValue). (t : ℕ) → t < run.ticks → net_signal run v.net t ≡ v.one) values
+IsInCase values run =
+    All (λ (v : CaseValue). (t : ℕ) → t < run.ticks → net_signal run v.net t ≡ v.one) values
 
 -- ---- the cone
 
--- The nets that a case may reach: its own, and each whose driver has a listening pin on one of them.
+-- The nets that a case may reach: its own, and each whose driver has a listening pin on one of
+-- them.
 pub data InCone (c : Circuit) (values : List CaseValue) : ℕ → Type 0 where
   Is_set : {i : ℕ} → is_set values i ≡ true → InCone c values i
   Hears_one : {from i : ℕ} → InCone c values from → Hears c from i → InCone c values i
@@ -58,7 +61,8 @@ EndsInCone c values (Unsettled net limit) = HasCone c values
 
 -- ---- its rounds
 
--- A net of the case has its constant, nothing is known of the rest of the cone, and the other nets keep their waves.
+-- A net of the case has its constant, nothing is known of the rest of the cone, and the other nets
+-- keep their waves.
 abbrev pub case_wave : Header → Option Bool → Bool → Wave Value → Wave Value
 case_wave h (Some one) reached before = constant_wave h one
 case_wave h None true before = unknown_wave h
@@ -77,9 +81,12 @@ case_round c values cone base = round c (case_active c cone) (case_start c value
 
 -- The waves are those of the case, whose rounds settle at this one, and within the limit.
 abbrev pub IsCase : Circuit → List CaseValue → (ℕ → Bool) → Waves → ℕ → ℕ → Waves → Type 0
-IsCase c values cone base limit r ws = AreAtRest c (case_active c cone) (case_start c values cone base) limit r ws
+IsCase c values cone base limit r ws =
+    AreAtRest c (case_active c cone) (case_start c values cone base) limit r ws
 
--- Waves after so many rounds of the base and of the case together permit every run of the case whose inputs keep their
--- assertions, from so many reaches on.
+-- Waves after so many rounds of the base and of the case together permit every run of the case
+-- whose inputs keep their assertions, from so many reaches on.
 abbrev pub PermitCase : Circuit → List CaseValue → ℕ → Waves → Type 0
-PermitCase c values rounds ws = (run : Run) → IsRun c run → MeetsInterface c run → IsInCase values run → PermitRun c run ws (rounds * reach c + 1)
+PermitCase c values rounds ws =
+    (run : Run) → IsRun c run → MeetsInterface c run → IsInCase values run →
+    PermitRun c run ws (rounds * reach c + 1)

@@ -26,7 +26,8 @@ is_free (Some n) = is_none n.driver && not (is_clock n.spec)
 -- no net stands twice
 pub data AreOnce : List CaseValue → Type 0 where
   none : AreOnce []
-  one_more : {v : CaseValue} {vs : List CaseValue} → is_set vs v.net ≡ false → AreOnce vs → AreOnce (v ∷ vs)
+  one_more : {v : CaseValue} {vs : List CaseValue} → is_set vs v.net ≡ false → AreOnce vs →
+      AreOnce (v ∷ vs)
 
 -- Its nets exist, each once; none is driven or an asserted clock.
 pub record IsListed (c : Circuit) (values : List CaseValue) : Type 0 where
@@ -45,7 +46,8 @@ bits_of nets values = map (bit_of nets) values
 
 -- Of whichever flat circuit this one stands for, these are the cases that are written.
 abbrev pub AreCasesOf : Circuit → List CaseStmt → List (List CaseValue) → Type 0
-AreCasesOf c written cases = (s : State) → Stands s c → listed_cases s written ≡ Ok (map (bits_of c.nets) cases)
+AreCasesOf c written cases =
+    (s : State) → Stands s c → listed_cases s written ≡ Ok (map (bits_of c.nets) cases)
 
 -- The cases that are written are refused so.
 abbrev pub AreCasesStop : Circuit → List CaseStmt → Stop → Type 0
@@ -54,7 +56,8 @@ AreCasesStop c written (Refused r) = (s : State) → Stands s c → listed_cases
 
 -- the same of cases that are not too many
 abbrev pub AreCases : Circuit → List CaseStmt → List (List CaseValue) → Type 0
-AreCases c written cases = (s : State) → Stands s c → cases_behind s [] written ≡ Ok (map (bits_of c.nets) cases)
+AreCases c written cases =
+    (s : State) → Stands s c → cases_behind s [] written ≡ Ok (map (bits_of c.nets) cases)
 
 abbrev pub AreNoCases : Circuit → List CaseStmt → Stop → Type 0
 AreNoCases c written NoMemory = Unit {0}
@@ -63,7 +66,8 @@ AreNoCases c written (Refused r) = (s : State) → Stands s c → cases_behind s
 -- ---- one case
 
 abbrev pub IsCaseOf : Circuit → List CaseEntry → List CaseValue → Type 0
-IsCaseOf c entries values = (s : State) → Stands s c → case_bits s [] entries ≡ Ok (bits_of c.nets values)
+IsCaseOf c entries values =
+    (s : State) → Stands s c → case_bits s [] entries ≡ Ok (bits_of c.nets values)
 
 abbrev pub IsCaseStop : Circuit → List CaseEntry → Stop → Type 0
 IsCaseStop c entries NoMemory = Unit {0}
@@ -73,12 +77,15 @@ IsCaseStop c entries (Refused r) = (s : State) → Stands s c → case_bits s []
 
 pub record AreNamed (c : Circuit) (marks : List Bool) (before : List CaseBit) : Type 0 where
   pub each_net : length marks ≡ length c.nets
-  pub are : (i : ℕ) → i < length c.nets → marked_in marks i ≡ is_named before (name_at (net_names c.nets) i)
+  pub are : (i : ℕ) → i < length c.nets →
+      marked_in marks i ≡ is_named before (name_at (net_names c.nets) i)
 
--- Whether an entry may set its net, which has this number: its name asserts nothing, the net is free and was not named
--- before, and the value is a bit.
+-- Whether an entry may set its net, which has this number: its name asserts nothing, the net is
+-- free and was not named before, and the value is a bit.
 abbrev pub may_set_at : Circuit → List Bool → CaseEntry → ℕ → Bool
-may_set_at c marks e i = not (is_asserted e.name.spec) && (is_free (slice_get c.nets i) && (not (marked_in marks i) && nat_le e.value 1))
+may_set_at c marks e i =
+    not (is_asserted e.name.spec) && (is_free (slice_get c.nets i)
+    && (not (marked_in marks i) && nat_le e.value 1))
 
 -- The value that the entry gives the net of its name, which it may.
 pub record MaySet (c : Circuit) (marks : List Bool) (e : CaseEntry) (v : CaseValue) : Type 0 where
@@ -89,4 +96,6 @@ pub record MaySet (c : Circuit) (marks : List Bool) (e : CaseEntry) (v : CaseVal
 
 -- whether the entry may be set, of whichever flat circuit and nets before it
 abbrev pub IsJudged : Circuit → List Bool → CaseEntry → Bool → Type 0
-IsJudged c marks e may = (s : State) (before : List CaseBit) → Stands s c → AreNamed c marks before → may_set s before e ≡ may
+IsJudged c marks e may =
+    (s : State) (before : List CaseBit) → Stands s c → AreNamed c marks before →
+    may_set s before e ≡ may

@@ -45,8 +45,9 @@ fn are_asserted_alike(a: &Net, b: &Net) -> bool
         && is_same_assertion(a.spec.or(&AssertSpec::None), b.spec.or(&AssertSpec::None))
 }
 
-/// The number of the wave that a net begins with, from those of the nets before it. The bits of a bus mostly
-/// assert the same, and a number that is known costs less than a wave that is worked out.
+/// The number of the wave that a net begins with, from those of the nets before it. The bits of a
+/// bus mostly assert the same, and a number that is known costs less than a wave that is worked
+/// out.
 fn number_after<W: CyclicWave<Item = Value>>(
     alloc: Global,
     c: &Circuit,
@@ -58,7 +59,8 @@ fn number_after<W: CyclicWave<Item = Value>>(
     requires exists { net < length c.now.nets }
     requires unknown { IsNumber store.old (unknown_wave c.now.header) unknown }
     requires known { AreKnown store.old before.now }
-    requires before { waves_at store.old before.now ≡ map (base_start c.now) (range_with_len 0 net) }
+    requires before { waves_at store.old before.now
+        ≡ map (base_start c.now) (range_with_len 0 net) }
     ensures grows { Grows store.old store.new }
     ensures is { IfOk result (IsNumber store.new (base_start c.now net)) }
 {
@@ -80,7 +82,8 @@ pub fn start_numbers<W: CyclicWave<Item = Value>>(
 ) -> Result<Numbers, NoMemory>
     ensures grows { Grows store.old store.new }
     ensures known { IfOk result (AreKnown store.new) }
-    ensures is { IfOk result (λ numbers. (i : ℕ) → waves_of (waves_at store.new numbers) i ≡ base_start c.now i) }
+    ensures is { IfOk result (λ numbers.
+        (i : ℕ) → waves_of (waves_at store.new numbers) i ≡ base_start c.now i) }
     ensures fit { IfOk result (λ numbers. FitWaves c.now (waves_at store.new numbers)) }
 {
     let unknown = store.number(unknown_wave(alloc, c.header())?)?;
@@ -139,7 +142,8 @@ pub fn base<W: CyclicWave<Item = Value>>(
     requires { AreClasses c.now cases.now classes.now }
     ensures grows { Grows store.old store.new }
     ensures known { IfOk result (λ s. AreKnown store.new s.numbers) }
-    ensures rest { IfOk result (λ s. IsBase c.now limit s.rounds (waves_of (waves_at store.new s.numbers))) }
+    ensures rest { IfOk result (λ s.
+        IsBase c.now limit s.rounds (waves_of (waves_at store.new s.numbers))) }
     ensures within { IfOk result (λ s. s.rounds ≤ limit) }
     ensures fit { IfOk result (λ s. FitWaves c.now (waves_at store.new s.numbers)) }
     ensures work { IfOk result (λ s. s.evals

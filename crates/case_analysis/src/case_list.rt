@@ -39,8 +39,8 @@ fn bit_known(bit: u16)
     let _ = bit;
 }
 
-/// What holds of the bits of each circuit: their numbers are at most 65,535. It goes through the nets,
-/// and is asked at most once for a drawing, where an entry is refused.
+/// What holds of the bits of each circuit: their numbers are at most 65,535. It goes through the
+/// nets, and is asked at most once for a drawing, where an entry is refused.
 fn bits_known(c: &Circuit)
     ensures { All (λ net. net.bit < 65536) c.now.nets }
 {
@@ -87,8 +87,8 @@ fn is_plain(name: &SignalName) -> bool
     }
 }
 
-/// Whether an entry may set its net, which has this number and exists: the entry's name asserts nothing,
-/// the net is free and was not named before, and the value is a bit.
+/// Whether an entry may set its net, which has this number and exists: the entry's name asserts
+/// nothing, the net is free and was not named before, and the value is a bit.
 fn may_set(c: &Circuit, entry: &CaseEntry, named: &NetSet, net: u32) -> bool
     requires { net < length c.now.nets }
     ensures { result ≡ may_set_at c.now named.now entry.now net }
@@ -96,8 +96,9 @@ fn may_set(c: &Circuit, entry: &CaseEntry, named: &NetSet, net: u32) -> bool
     is_plain(&entry.name) && is_free(net_of(c, net)) && !named.has(net) && entry.value <= 1
 }
 
-/// The value that an entry gives its net: none where it may not, since its name asserts something, the
-/// net does not exist, is driven, is an asserted clock or was named before, or the value is no bit.
+/// The value that an entry gives its net: none where it may not, since its name asserts something,
+/// the net does not exist, is driven, is an asserted clock or was named before, or the value is no
+/// bit.
 fn value_of(
     alloc: Global,
     c: &Circuit,
@@ -156,12 +157,13 @@ fn cases_of(alloc: Global, c: &Circuit, written: &[CaseStmt]) -> Result<CaseList
     Ok(cases)
 }
 
-/// The cases that a drawing lists, whose circuit is given. The 257th case is refused, wherever it is, and then the
-/// first entry that names a net with an assertion, or one that does not exist, is driven, is an asserted
-/// clock or was named before in the same case, or whose value is not 0 or 1; `NoMemory` comes where
-/// memory runs out.
+/// The cases that a drawing lists, whose circuit is given. The 257th case is refused, wherever it
+/// is, and then the first entry that names a net with an assertion, or one that does not exist, is
+/// driven, is an asserted clock or was named before in the same case, or whose value is not 0 or 1;
+/// `NoMemory` comes where memory runs out.
 pub fn check_cases(alloc: Global, c: &Circuit, written: &CaseStmts) -> Result<CaseList, Stop>
-    ensures is { MatchResult result (AreCasesOf c.now written.now) (AreCasesStop c.now written.now) }
+    ensures is { MatchResult result (AreCasesOf c.now written.now)
+        (AreCasesStop c.now written.now) }
     ensures listed { IfOk result (All (IsListed c.now)) }
     ensures few { IfOk result (λ cases. length cases ≤ 256) }
 {

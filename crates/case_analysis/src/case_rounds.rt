@@ -28,8 +28,8 @@ use std::alloc::Global;
 use step_values::Value;
 use wave_core::CyclicWave;
 
-/// The numbers of the waves of all nets before those of the case are set: nothing is known of a net that the case
-/// reaches, and each other net is as it was.
+/// The numbers of the waves of all nets before those of the case are set: nothing is known of a net
+/// that the case reaches, and each other net is as it was.
 fn unset_numbers(
     alloc: Global,
     c: &Circuit,
@@ -43,7 +43,8 @@ fn unset_numbers(
     ensures known { IfOk result (λ numbers. (table : List (Wave OfValues)) →
         AreKnown table before.now → unknown < length table → AreKnown table numbers) }
     ensures is { IfOk result (λ numbers. (table : List (Wave OfValues)) →
-        IsNumber table (unknown_wave c.now.header) unknown → (i : ℕ) → waves_of (waves_at table numbers) i
+        IsNumber table (unknown_wave c.now.header) unknown → (i : ℕ) →
+        waves_of (waves_at table numbers) i
         ≡ case_start c.now [] (marked_in cone.now) (waves_of (waves_at table before.now)) i) }
 {
     let mut numbers: Numbers = List::new(alloc);
@@ -90,7 +91,8 @@ fn start_numbers<W: CyclicWave<Item = Value>>(
 /// The driven nets of a cone.
 fn driven_in(alloc: Global, c: &Circuit, cone: &NetSet) -> Result<NetSet, NoMemory>
     ensures each_net { IfOk result (λ set. length set ≡ length c.now.nets) }
-    ensures is { IfOk result (λ set. (i : ℕ) → marked_in set i ≡ case_active c.now (marked_in cone.now) i) }
+    ensures is { IfOk result (λ set.
+        (i : ℕ) → marked_in set i ≡ case_active c.now (marked_in cone.now) i) }
 {
     let mut active = NetSet::new(alloc, c.net_count())?;
     for net in 0..c.net_count() {

@@ -67,7 +67,8 @@ impl Found {
     /// Appends the net that an instance drives.
     fn add_output(&mut self, c: &Circuit, instance: u32) -> Result<(), NoMemory>
         requires { length self.old.marks ≡ length c.now.nets }
-        ensures { OnOk result (Extends (drives_in (out_at c.now.instances instance)) self.old self.new) }
+        ensures { OnOk result (Extends
+            (drives_in (out_at c.now.instances instance)) self.old self.new) }
     {
         c.known();
         match output_of(c, instance) {
@@ -80,7 +81,8 @@ impl Found {
     fn add_hearers(&mut self, c: &Circuit, net: u32) -> Result<(), NoMemory>
         requires each_net { length self.old.marks ≡ length c.now.nets }
         requires exists { net < length c.now.nets }
-        ensures { OnOk result (Extends (λ i. hears_in (λ j. net == j) (driver c.now i)) self.old self.new) }
+        ensures { OnOk result (Extends (λ i.
+            hears_in (λ j. net == j) (driver c.now i)) self.old self.new) }
     {
         c.known();
         for reader in readers_of(c, net) {
@@ -97,8 +99,8 @@ impl Found {
     }
 }
 
-/// The nets that a case may reach: its own, and each whose driver has a listening pin on one of them,
-/// and no other. It costs what the readers of these nets cost.
+/// The nets that a case may reach: its own, and each whose driver has a listening pin on one of
+/// them, and no other. It costs what the readers of these nets cost.
 pub fn cone(alloc: Global, c: &Circuit, case: &Case) -> Result<NetSet, NoMemory>
     requires { NetsExist c.now case.now }
     ensures each_net { IfOk result (λ set. length set ≡ length c.now.nets) }

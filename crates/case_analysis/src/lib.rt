@@ -1,8 +1,9 @@
-//! The base of a circuit: the settled waves of rounds that begin with the inputs alone, and nothing known
-//! of any net that is driven; and the tick from which on they permit every run.
+//! The base of a circuit: the settled waves of rounds that begin with the inputs alone, and nothing
+//! known of any net that is driven; and the tick from which on they permit every run.
 //!
-//! The layer above calls [`base`] for the waves, and [`reach`] and [`tick`] for that tick. `specs/Base`
-//! says which runs the waves permit, and `specs/Tick` from which tick on checks may rely on them.
+//! The layer above calls [`base`] for the waves, and [`reach`] and [`tick`] for that tick.
+//! `specs/Base` says which runs the waves permit, and `specs/Tick` from which tick on checks may
+//! rely on them.
 //!
 //! [`check_cases`] gives the cases that a drawing lists, and [`case_waves`] the waves of one, from those
 //! of the base (`specs/Listed`, `Case`).

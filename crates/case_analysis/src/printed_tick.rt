@@ -38,8 +38,8 @@ fn greatest_wire(c: &Circuit, pins: &[Pin]) -> u16
     greatest
 }
 
-/// How many ticks an instance looks back, at most: by its own delay, which a checker has not, and by
-/// the wires to its pins. With two delays it is the greatest of both, at which `delay` ends.
+/// How many ticks an instance looks back, at most: by its own delay, which a checker has not, and
+/// by the wires to its pins. With two delays it is the greatest of both, at which `delay` ends.
 fn looks_back(c: &Circuit, instance: &Instance) -> u32
     ensures is { result ≡ greatest_delay instance.now + greatest_wire c.now.nets instance.now.pins }
     ensures bounded { result ≤ 8190 }
@@ -53,8 +53,8 @@ fn looks_back(c: &Circuit, instance: &Instance) -> u32
     }
 }
 
-/// How many ticks later than a round the next one holds: one more than the farthest that any instance
-/// looks back, since storage looks at its own output a tick before.
+/// How many ticks later than a round the next one holds: one more than the farthest that any
+/// instance looks back, since storage looks at its own output a tick before.
 pub fn reach(c: &Circuit) -> u32
     ensures is { result ≡ reach c.now }
     ensures bounded { result ≤ 8191 }

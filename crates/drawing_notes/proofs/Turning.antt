@@ -40,7 +40,7 @@ module _ (l : Library) (levels : ℕ) (loop : ForStmt) (scope : numbered_scope.S
   for_is = ap (λ (s : Statement). in_one l levels s scope) (view_for loop)
 
   pub for_refused : (r : Refusal) → AreEnds scope.env loop (Err (Refused r)) → whole ≡ []
-  for_refused r h = for_is ∙ rw (h.told r refl) refl
+  for_refused r h = for_is ∙ rw (h.agrees r refl) refl
 
   module _ (first last : ℤ) (are : ends ≡ Ok (first, last)) where
     pub for_none : last <ℤ first → whole ≡ []

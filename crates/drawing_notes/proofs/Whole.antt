@@ -22,7 +22,7 @@ use Rattle.drawing_notes.specs.Walk.{in_all}
 pub no_spreads : (d : written_drawing.Drawing) (stop : Stop) (r : Refusal) → stop ≡ Refused r →
     ((s : State) → Failed stop (const_values [] (map assignment_of d.consts) d.const_places s)) → spreads (drawing_of d) ≡ []
 unfolding spreads
-no_spreads d stop r is h = rw ((h (nothing_yet d.header)).told r is) refl
+no_spreads d stop r is h = rw ((h (nothing_yet d.header)).agrees r is) refl
 
 pub all_spreads : (d : written_drawing.Drawing) (ticks : ℕ) (l : Library) (consts copy : List Binding) (s : numbered_scope.Scope) (ss : List Stmt) →
     ticks ≡ period d.header → ((s : State) → const_values [] (map assignment_of d.consts) d.const_places s ≡ Gives consts s) →

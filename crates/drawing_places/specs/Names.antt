@@ -71,7 +71,8 @@ spot_anywhere sought d =
 abbrev pub sought_by : List ℕ → AssertSpec → Sought
 sought_by text spec = record { base = last_part text; global = is_global_text text; spec = spec }
 
--- Where the name of a net stands with its assertion: the first place in its scope, or of a global in the drawing.
+-- Where the name of a net stands with its assertion: the first place in its scope, or of a global
+-- in the drawing.
 abbrev pub spot_of : Drawing → List ℕ → AssertSpec → Option Spot
 spot_of d text spec =
     if is_global_text text then spot_anywhere (sought_by text spec) d

@@ -1,5 +1,5 @@
--- The parts of the text of a net or of an instance: the labels of the uses that it is in, each with a slash after
--- it, and then a base or a label.
+-- The parts of the text of a net or of an instance: the labels of the uses that it is in, each with
+-- a slash after it, and then a base or a label.
 use Rattle.std.specs.Prelude.{ℕ, ◌==◌, Bool, false, List, [], ◌∷◌, ◌++◌, if◌then◌else◌}
 use Rattle.std.specs.List.{list_any}
 

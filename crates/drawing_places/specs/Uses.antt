@@ -25,7 +25,8 @@ abbrev pub body_of : List Macro → UseStatement → Statements
 body_of macros u = body_in (macro_of u.kind macros)
 
 -- a use, and those from its body on
-abbrev pub use_then : List Macro → (Statements → List UseStatement) → Option UseStatement → List UseStatement
+abbrev pub use_then : List Macro → (Statements → List UseStatement) → Option UseStatement →
+    List UseStatement
 use_then macros others None = []
 use_then macros others (Some u) = u ∷ others (body_of macros u)
 

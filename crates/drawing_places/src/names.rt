@@ -152,8 +152,8 @@ fn spot_anywhere<'a>(
     spot_in_body(alloc, drawing.body.as_slice(), wanted)
 }
 
-/// Where the name of a net, with the text of its scope and its base, stands with this assertion: the first
-/// place in its scope, or of a global in the drawing.
+/// Where the name of a net, with the text of its scope and its base, stands with this assertion:
+/// the first place in its scope, or of a global in the drawing.
 pub fn spot_of<'a>(
     alloc: Global,
     drawing: &'a Drawing,

@@ -26,7 +26,8 @@ pub struct Scope<'a> {
 
 /// A use, where it has a label.
 fn use_labelled<'a>(statement: &'a Stmt, label: &[u8]) -> Option<&'a UseStmt>
-    ensures { option_map use_of (option_copied result) ≡ use_labelled label.now (statement_of statement.now) }
+    ensures { option_map use_of (option_copied result)
+        ≡ use_labelled label.now (statement_of statement.now) }
 {
     match statement {
         Stmt::Use(found) if same_bytes(found.label.as_slice(), label) => Some(found),
@@ -63,7 +64,8 @@ fn macro_named<'a>(drawing: &'a Drawing, name: &[u8]) -> Option<&'a MacroDef>
 
 /// The statements of the macro of a name; none where there is no such macro.
 fn body_of<'a>(drawing: &'a Drawing, name: &[u8]) -> &'a [Stmt]
-    ensures { statements_of result.now ≡ body_in (first_called name.now (map macro_in drawing.now.macros)) }
+    ensures { statements_of result.now
+        ≡ body_in (first_called name.now (map macro_in drawing.now.macros)) }
 {
     match macro_named(drawing, name) {
         None => &[],

@@ -1,4 +1,5 @@
--- The canonical text of a drawing: one statement a line, each line ended by byte 10. Every tree has one.
+-- The canonical text of a drawing: one statement a line, each line ended by byte 10. Every tree has
+-- one.
 use Rattle.std.specs.Prelude.{ℕ, Bool, List, [], ◌∷◌, ◌++◌, codes, decimal, Option, Some, None, if◌then◌else◌}
 use Rattle.std.specs.List.{join_by, flat_map}
 use Rattle.scald_base.specs.Time.{Header}
@@ -84,7 +85,8 @@ fall_text (Some fall) = codes ", " ++ bounds_text fall.0 fall.1
 -- in brackets, a fall delay behind the delay; without a delay it counts as not there
 abbrev pub delay_text : Option (Expression × Expression) → Option (Expression × Expression) → List ℕ
 delay_text None fall = []
-delay_text (Some delay) fall = codes " [" ++ bounds_text delay.0 delay.1 ++ fall_text fall ++ codes "]"
+delay_text (Some delay) fall =
+    codes " [" ++ bounds_text delay.0 delay.1 ++ fall_text fall ++ codes "]"
 
 -- ---- statements
 
@@ -93,10 +95,13 @@ unfoldable pub use_head : UseStatement → List ℕ
 use_head u = u.label ++ codes " : " ++ u.kind ++ delay_text u.delay u.fall ++ params_text u.params
 
 unfoldable pub use_text : UseStatement → List ℕ
-use_text u = use_head u ++ inputs_text connection_text u.ins ++ outputs_text connection_text u.outs ++ codes ";"
+use_text u =
+    use_head u ++ inputs_text connection_text u.ins ++ outputs_text connection_text u.outs
+    ++ codes ";"
 
 unfoldable pub wire_text : WireStatement → List ℕ
-wire_text w = codes "WIRE " ++ signal_text w.name w.range ++ codes " " ++ bounds_text w.min w.max ++ codes ";"
+wire_text w =
+    codes "WIRE " ++ signal_text w.name w.range ++ codes " " ++ bounds_text w.min w.max ++ codes ";"
 
 -- a line after its margin
 abbrev pub line : List ℕ → List ℕ → List ℕ
@@ -157,13 +162,16 @@ formal_text f = quoted f.base ++ range_text f.range
 
 -- the first line of a macro
 unfoldable pub macro_head : Macro → List ℕ
-macro_head m = codes "MACRO " ++ m.name ++ params_text m.params ++ inputs_text formal_text m.ins ++ outputs_text formal_text m.outs ++ codes ";"
+macro_head m =
+    codes "MACRO " ++ m.name ++ params_text m.params ++ inputs_text formal_text m.ins
+    ++ outputs_text formal_text m.outs ++ codes ";"
 
 unfoldable pub macro_lines : Macro → List ℕ
 macro_lines m = line [] (macro_head m) ++ body_lines m.body
 
 abbrev pub entry_text : CaseEntry → List ℕ
-entry_text e = quoted (name_text e.name) ++ codes "<" ++ decimal e.bit ++ codes ">=" ++ decimal e.value
+entry_text e =
+    quoted (name_text e.name) ++ codes "<" ++ decimal e.bit ++ codes ">=" ++ decimal e.value
 
 abbrev pub case_lines : CaseStmt → List ℕ
 case_lines c = line [] (codes "CASE " ++ listed_text entry_text c.entries ++ codes ";")

@@ -14,4 +14,5 @@ abbrev pub expression_of : Expr → Expression
 expression_of (expr.Number n) = Number n
 expression_of (expr.Param name) = Param name
 expression_of (expr.Negate' p operand) = Negate (expression_of operand)
-expression_of (expr.Binary' op p left q right) = Binary op (expression_of left) (expression_of right)
+expression_of (expr.Binary' op p left q right) =
+    Binary op (expression_of left) (expression_of right)

@@ -1,4 +1,5 @@
--- How an expression is written: one space on each side of an operator, and parentheses only where they are asked for.
+-- How an expression is written: one space on each side of an operator, and parentheses only where
+-- they are asked for.
 use Rattle.std.specs.Prelude.{ℕ, Bool, true, false, ◌&&◌, ◌||◌, List, ◌++◌, codes, if◌then◌else◌}
 use Rattle.std.specs.Fmt.{signed_decimal}
 use Rattle.drawing_tree.specs.declared.expr.Op.{Op}
@@ -69,17 +70,21 @@ is_minus (Binary op left right) = false
 
 -- ---- where parentheses stand
 
--- A comparison stands in parentheses as an operand of anything, and so does a sum as the left operand of a product.
+-- A comparison stands in parentheses as an operand of anything, and so does a sum as the left
+-- operand of a product.
 abbrev pub left_enclosed : Op → Expression → Bool
 left_enclosed op left = is_comparison left || (multiplies op && is_sum left)
 
 -- As a right operand a sum is in parentheses after + and - too, and a product after * and /.
 abbrev pub right_enclosed : Op → Expression → Bool
-right_enclosed op right = is_comparison right || ((adds op || multiplies op) && is_sum right) || (multiplies op && is_product right)
+right_enclosed op right =
+    is_comparison right || ((adds op || multiplies op) && is_sum right)
+    || (multiplies op && is_product right)
 
 -- Behind a minus so does everything but a number and a parameter, another minus too.
 abbrev pub minus_enclosed : Expression → Bool
-minus_enclosed operand = is_comparison operand || is_sum operand || is_product operand || is_minus operand
+minus_enclosed operand =
+    is_comparison operand || is_sum operand || is_product operand || is_minus operand
 
 abbrev pub enclosed : Bool → List ℕ → List ℕ
 enclosed asked text = if asked then codes "(" ++ text ++ codes ")" else text
@@ -102,9 +107,11 @@ op_text Ge = codes " >= "
 unfoldable pub condition_text : Expression → List ℕ
 condition_text (Number n) = signed_decimal n
 condition_text (Param name) = name
-condition_text (Negate operand) = codes "-" ++ enclosed (minus_enclosed operand) (condition_text operand)
+condition_text (Negate operand) =
+    codes "-" ++ enclosed (minus_enclosed operand) (condition_text operand)
 condition_text (Binary op left right) =
-    enclosed (left_enclosed op left) (condition_text left) ++ op_text op ++ enclosed (right_enclosed op right) (condition_text right)
+    enclosed (left_enclosed op left) (condition_text left) ++ op_text op
+    ++ enclosed (right_enclosed op right) (condition_text right)
 
 -- Everywhere but as a whole condition a comparison stands in parentheses.
 abbrev pub sum_text : Expression → List ℕ

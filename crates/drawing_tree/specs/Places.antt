@@ -13,7 +13,12 @@ abbrev pub unplaced_connection : Connection → Connection
 unplaced_connection c = record c { place = nowhere }
 
 abbrev pub unplaced_use : UseStatement → UseStatement
-unplaced_use u = record u { ins = map unplaced_connection u.ins; outs = map unplaced_connection u.outs; place = nowhere }
+unplaced_use u =
+    record u {
+      ins = map unplaced_connection u.ins;
+      outs = map unplaced_connection u.outs;
+      place = nowhere;
+    }
 
 abbrev pub unplaced_wire : WireStatement → WireStatement
 unplaced_wire w = record w { place = nowhere }
@@ -22,7 +27,8 @@ abbrev mutual
   pub unplaced_statement : Statement → Statement
   unplaced_statement (Use u) = Use (unplaced_use u)
   unplaced_statement (Wire w) = Wire (unplaced_wire w)
-  unplaced_statement (If test ss other place) = If test (unplaced_statements ss) (unplaced_otherwise other) nowhere
+  unplaced_statement (If test ss other place) =
+      If test (unplaced_statements ss) (unplaced_otherwise other) nowhere
   unplaced_statement (For var first last ss place) =
       For var first last (unplaced_statements ss) nowhere
 

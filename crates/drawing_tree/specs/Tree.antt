@@ -53,7 +53,8 @@ pub record Assignment : Type 0 where
   pub name : List ℕ
   pub value : Expression
 
--- Where two delays are written, the first is that of rises. Without it a fall delay counts as not there.
+-- Where two delays are written, the first is that of rises. Without it a fall delay counts as not
+-- there.
 pub record UseStatement : Type 0 where
   pub label : List ℕ
   pub kind : List ℕ

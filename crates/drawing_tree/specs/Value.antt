@@ -1,4 +1,5 @@
--- The value of an expression, on whole numbers of any size, or its first fault. What stands left comes before what stands right.
+-- The value of an expression, on whole numbers of any size, or its first fault. What stands left
+-- comes before what stands right.
 use Rattle.std.specs.Prelude.{ℕ, zero, ◌^◌, ℤ, pos, negsuc, ◌+ℤ◌, ◌-ℤ◌, ◌*ℤ◌, neg_ℤ, int_div, int_lt, int_le, Bool, not, ◌&&◌, nat_lt, if◌then◌else◌, List, Option, Some, None, Result, Ok, Err}
 use Rattle.std.specs.List.{find}
 use Rattle.std.specs.Str.{bytes_eq}
@@ -63,4 +64,5 @@ abbrev pub value : List Binding → Expression → Outcome
 value env (Number n) = Ok n
 value env (Param name) = value_in env name
 value env (Negate operand) = after (value env operand) (λ a. within (neg_ℤ a))
-value env (Binary op left right) = after (value env left) (λ a. after (value env right) (λ b. applied op a b))
+value env (Binary op left right) =
+    after (value env left) (λ a. after (value env right) (λ b. applied op a b))

@@ -1,4 +1,5 @@
--- Well formed drawings: names that are names, words that are words and not reserved, a header that may be, and nothing named twice.
+-- Well formed drawings: names that are names, words that are words and not reserved, a header that
+-- may be, and nothing named twice.
 use Rattle.std.specs.Prelude.{◌≡◌, ℕ, false, List, [], ◌∷◌, ◌++◌, length, map, All, IfSome, ⊤, ◌⊎◌}
 use Rattle.std.specs.List.{IsDistinct}
 use Rattle.std.specs.Str.{bytes_eq}
@@ -85,7 +86,8 @@ abbrev mutual
   pub statement_labels : Statement → List (List ℕ)
   statement_labels (Use u) = u.label ∷ []
   statement_labels (Wire w) = []
-  statement_labels (If test behind_then behind_else place) = labels behind_then ++ else_labels behind_else
+  statement_labels (If test behind_then behind_else place) =
+      labels behind_then ++ else_labels behind_else
   statement_labels (For var first last body place) = labels body
 
   pub labels : Statements → List (List ℕ)

@@ -17,7 +17,8 @@ use std::alloc::Global;
 
 /// Puts the least and the greatest of something at the end.
 pub fn add_bounds(out: &mut Bytes, min: &Expr, max: &Expr) -> Result<(), NoMemory>
-    ensures { OnOk result (out.new ≡ out.old ++ bounds_text (expression_of min.now) (expression_of max.now)) }
+    ensures { OnOk result (out.new
+        ≡ out.old ++ bounds_text (expression_of min.now) (expression_of max.now)) }
 {
     add_sum(out, min)?;
     out.push(b':')?;
@@ -126,7 +127,8 @@ impl Printed for Conn {
 
 #[tactic(auto, using(crate::proofs::Joined::join_by_map))]
 fn add_terms(alloc: Global, out: &mut Bytes, terms: &[Term]) -> Result<(), NoMemory>
-    ensures { OnOk result (out.new ≡ out.old ++ join_by term_text (codes " & ") (map term_of terms.now)) }
+    ensures { OnOk result (out.new
+        ≡ out.old ++ join_by term_text (codes " & ") (map term_of terms.now)) }
 {
     add_joined(alloc, out, b" & ", terms)
 }

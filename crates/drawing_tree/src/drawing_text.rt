@@ -32,7 +32,8 @@ fn add_pair(
     second: u16,
 ) -> Result<(), NoMemory>
     ensures { OnOk result
-        (out.new ≡ out.old ++ line [] (before.now ++ decimal first ++ between.now ++ decimal second ++ codes ";")) }
+        (out.new ≡ out.old ++ line [] (before.now ++ decimal first ++ between.now ++ decimal second
+        ++ codes ";")) }
 {
     add_number(out, before, u32::from(first))?;
     add_number(out, between, u32::from(second))?;
@@ -66,7 +67,8 @@ fn add_constant(out: &mut Bytes, constant: &Assign) -> Result<(), NoMemory>
 /// Puts the lines of the constants at the end.
 #[tactic(auto, using(crate::proofs::Joined::each_map))]
 fn add_constants(out: &mut Bytes, constants: &[Assign]) -> Result<(), NoMemory>
-    ensures { OnOk result (out.new ≡ out.old ++ flat_map constant_line (map assignment_of constants.now)) }
+    ensures { OnOk result (out.new
+        ≡ out.old ++ flat_map constant_line (map assignment_of constants.now)) }
 {
     'constants: for constant in constants {
         add_constant(out, constant)?;
@@ -164,7 +166,8 @@ fn add_macros(alloc: Global, out: &mut Bytes, macros: &[MacroDef]) -> Result<(),
 
 /// Puts the line that begins the drawing itself at the end.
 fn add_title(out: &mut Bytes, name: &[u8]) -> Result<(), NoMemory>
-    ensures { OnOk result (out.new ≡ out.old ++ line [] (codes "DRAWING " ++ name.now ++ codes ";")) }
+    ensures { OnOk result (out.new
+        ≡ out.old ++ line [] (codes "DRAWING " ++ name.now ++ codes ";")) }
 {
     out.extend(b"DRAWING ")?;
     out.extend(name)?;

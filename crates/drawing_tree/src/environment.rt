@@ -9,5 +9,6 @@ pub struct Binding {
     pub value: i64,
 }
 
-/// The values of parameters. Where names are distinct, each has the one value that stands beside it.
+/// The values of parameters. Where names are distinct, each has the one value that stands beside
+/// it.
 pub type Env = List<Binding>;

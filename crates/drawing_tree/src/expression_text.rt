@@ -124,7 +124,8 @@ pub fn add_condition(out: &mut Bytes, e: &Expr) -> Result<(), NoMemory>
 /// Puts an expression at the end, in parentheses where they are asked for.
 #[cycle(expression)]
 fn add_enclosed(out: &mut Bytes, e: &Expr, asked: bool) -> Result<(), NoMemory>
-    ensures { OnOk result (out.new ≡ out.old ++ enclosed asked (condition_text (expression_of e.now))) }
+    ensures { OnOk result (out.new
+        ≡ out.old ++ enclosed asked (condition_text (expression_of e.now))) }
 {
     if !asked {
         return add_condition(out, e);

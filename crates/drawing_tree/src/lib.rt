@@ -5,8 +5,8 @@
 //! canonically (`specs/Canonical`, `specs/ExpressionText`), and `eval` gives the value of an
 //! expression under the values of its parameters, or its first fault (`specs/Value`). `specs/Tree`
 //! sees a drawing as a tree of what it holds, `specs/Places` says when two are alike but for the
-//! places of their parts, and `specs/WellFormed` which drawings are well formed, as each one is that
-//! a text draws.
+//! places of their parts, and `specs/WellFormed` which drawings are well formed, as each one is
+//! that a text draws.
 #![tactic(auto)]
 
 // expressions

@@ -61,7 +61,8 @@ pub fn add_bracketed_if_some<T: Printed>(
     behind: &[u8],
     items: &[T],
 ) -> Result<(), NoMemory>
-    ensures { OnOk result (out.new ≡ out.old ++ bracketed_if_some before.now behind.now T.text items.now) }
+    ensures { OnOk result (out.new
+        ≡ out.old ++ bracketed_if_some before.now behind.now T.text items.now) }
 {
     if items.is_empty() {
         return Ok(());

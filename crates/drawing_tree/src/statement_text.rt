@@ -59,7 +59,8 @@ fn add_delay(
     fall: &Option<Box<(Expr, Expr)>>,
 ) -> Result<(), NoMemory>
     ensures { OnOk result
-        (out.new ≡ out.old ++ delay_text (option_map both_of delay.now) (written_fall_of fall.now)) }
+        (out.new ≡ out.old ++ delay_text (option_map both_of delay.now)
+        (written_fall_of fall.now)) }
 {
     let Some(delay) = delay else {
         return Ok(());
@@ -73,7 +74,8 @@ fn add_delay(
 /// Puts the inputs of a use in their parentheses at the end.
 #[tactic(auto, using(crate::proofs::Joined::bracketed_map))]
 fn add_ins(alloc: Global, out: &mut Bytes, ins: &[Conn]) -> Result<(), NoMemory>
-    ensures { OnOk result (out.new ≡ out.old ++ inputs_text connection_text (map connection_of ins.now)) }
+    ensures { OnOk result (out.new
+        ≡ out.old ++ inputs_text connection_text (map connection_of ins.now)) }
 {
     add_bracketed(alloc, out, b" (", b")", ins)
 }
@@ -81,7 +83,8 @@ fn add_ins(alloc: Global, out: &mut Bytes, ins: &[Conn]) -> Result<(), NoMemory>
 /// Appends an arrow and the outputs of a use, where there are some.
 #[tactic(auto, using(crate::proofs::Joined::bracketed_if_some_map))]
 fn add_outs(alloc: Global, out: &mut Bytes, outs: &[Conn]) -> Result<(), NoMemory>
-    ensures { OnOk result (out.new ≡ out.old ++ outputs_text connection_text (map connection_of outs.now)) }
+    ensures { OnOk result (out.new
+        ≡ out.old ++ outputs_text connection_text (map connection_of outs.now)) }
 {
     add_bracketed_if_some(alloc, out, b" -> (", b")", outs)
 }
@@ -163,7 +166,8 @@ fn add_if_line(out: &mut Bytes, margin: &[u8], test: &Expr) -> Result<(), NoMemo
 /// Puts the values that the variable of a FOR takes at the end.
 fn add_for_values(out: &mut Bytes, first: &Expr, last: &Expr) -> Result<(), NoMemory>
     ensures { OnOk result (out.new ≡ out.old
-        ++ (sum_text (expression_of first.now) ++ codes " TO " ++ sum_text (expression_of last.now) ++ codes " DO")) }
+        ++ (sum_text (expression_of first.now) ++ codes " TO " ++ sum_text (expression_of last.now)
+        ++ codes " DO")) }
 {
     add_sum(out, first)?;
     out.extend(b" TO ")?;
@@ -174,7 +178,8 @@ fn add_for_values(out: &mut Bytes, first: &Expr, last: &Expr) -> Result<(), NoMe
 /// Puts what stands in the first line of a FOR at the end.
 fn add_for_head(out: &mut Bytes, repeated: &ForStmt) -> Result<(), NoMemory>
     ensures { OnOk result (out.new ≡ out.old
-        ++ for_text repeated.now.var (expression_of repeated.now.first) (expression_of repeated.now.last)) }
+        ++ for_text repeated.now.var (expression_of repeated.now.first)
+        (expression_of repeated.now.last)) }
 {
     out.extend(b"FOR ")?;
     out.extend(repeated.var.as_slice())?;
@@ -185,7 +190,8 @@ fn add_for_head(out: &mut Bytes, repeated: &ForStmt) -> Result<(), NoMemory>
 /// Puts the first line of a FOR at the end.
 fn add_for_line(out: &mut Bytes, margin: &[u8], repeated: &ForStmt) -> Result<(), NoMemory>
     ensures { OnOk result (out.new ≡ out.old ++ line margin.now
-        (for_text repeated.now.var (expression_of repeated.now.first) (expression_of repeated.now.last))) }
+        (for_text repeated.now.var (expression_of repeated.now.first)
+        (expression_of repeated.now.last))) }
 {
     out.extend(margin)?;
     add_for_head(out, repeated)?;
@@ -211,7 +217,8 @@ fn add_statement(
     margin: &[u8],
     statement: &Stmt,
 ) -> Result<(), NoMemory>
-    ensures { OnOk result (out.new ≡ out.old ++ statement_lines margin.now (statement_of statement.now)) }
+    ensures { OnOk result (out.new
+        ≡ out.old ++ statement_lines margin.now (statement_of statement.now)) }
 {
     match statement {
         Stmt::Use(u) => add_use_line(alloc, out, margin, u),
@@ -264,7 +271,8 @@ pub fn add_statements(
     margin: &[u8],
     statements: &[Stmt],
 ) -> Result<(), NoMemory>
-    ensures { OnOk result (out.new ≡ out.old ++ statements_lines margin.now (statements_of statements.now)) }
+    ensures { OnOk result (out.new
+        ≡ out.old ++ statements_lines margin.now (statements_of statements.now)) }
 {
     'statements: for statement in statements {
         add_statement(alloc, out, margin, statement)?;

@@ -6,9 +6,11 @@ use Rattle.fixpoint_engine.specs.declared.rounds.EngineEnd.{EngineEnd}
 use Rattle.fixpoint_engine.specs.declared.rounds.EngineEnd.TheVariants.{Unsettled, NoMemory}
 use Rattle.fixpoint_engine.specs.Rounds.{IsUnsettled}
 
--- Rounds end without rest at the limit, by a net that still differs there. Memory may run out at any time.
+-- Rounds end without rest at the limit, by a net that still differs there. Memory may run out at
+-- any time.
 abbrev pub EndsFor : List ℕ → (ℕ → Waves) → ℕ → EngineEnd → Type 0
-EndsFor order rounds limit (Unsettled net round) = IsUnsettled order rounds limit net × (round ≡ limit)
+EndsFor order rounds limit (Unsettled net round) =
+    IsUnsettled order rounds limit net × (round ≡ limit)
 EndsFor order rounds limit NoMemory = ⊤
 
 -- the first place of an order whose net is of the set

@@ -10,11 +10,14 @@ use Rattle.fixpoint_engine.specs.Waves.{Waves}
 
 -- each undriven net keeps its assertion at all of its ticks
 abbrev pub MeetsInterface : Circuit → Run → Type 0
-MeetsInterface c run = (i : ℕ) (net : Net) → slice_get c.nets i ≡ Some net → net.driver ≡ None → Meets c.header net.spec run.ticks (net_signal run i)
+MeetsInterface c run =
+    (i : ℕ) (net : Net) → slice_get c.nets i ≡ Some net → net.driver ≡ None →
+    Meets c.header net.spec run.ticks (net_signal run i)
 
 -- the waves permit the first n ticks of each net of the run, from tick v on
 abbrev pub PermitFront : Circuit → Run → ℕ → Waves → ℕ → Type 0
-PermitFront c run n ws v = (i : ℕ) → i < length c.nets → Permits values (ws i) n (net_signal run i) v
+PermitFront c run n ws v =
+    (i : ℕ) → i < length c.nets → Permits values (ws i) n (net_signal run i) v
 
 -- all of its ticks
 abbrev pub PermitRun : Circuit → Run → Waves → ℕ → Type 0

@@ -1,5 +1,6 @@
--- What an evaluation depends on: the kind of an instance, its delays, what is complemented and marked, and the numbers of
--- the waves of what its pins are on. Instances that have these in common make one wave.
+-- What an evaluation depends on: the kind of an instance, its delays, what is complemented and
+-- marked, and the numbers of the waves of what its pins are on. Instances that have these in common
+-- make one wave.
 use Rattle.std.specs.Prelude.{◌≡◌, ℕ, ◌+◌, ◌*◌, ◌++◌, false, true, List, map, position, zip, if◌then◌else◌, Option, Some, None}
 use Rattle.std.specs.Hash as fed
 use Rattle.scald_base.specs.Time.{Bounds, Header}
@@ -45,7 +46,8 @@ shown_by p w = wave_behind w (record { min = p.least; max = p.greatest }) p.inve
 abbrev pub key_makes : Key → List (Wave Value) → Wave Value
 key_makes k ws =
     let shown = map (λ (x : KeyPin × Wave Value). shown_by x.0 x.1) (zip k.pins ws) in
-    normal values (turned_wave k.inverted (made_by k.kind shown (position (λ (p : KeyPin). p.hold) k.pins) (delay_of k) (split_of k)))
+    normal values (turned_wave k.inverted
+    (made_by k.kind shown (position (λ (p : KeyPin). p.hold) k.pins) (delay_of k) (split_of k)))
 
 -- ---- what it feeds to a hasher
 
@@ -56,7 +58,8 @@ pin_word p = p.wave * 2 + (if p.inverted then 1 else 0)
 abbrev pub pin_fed : KeyPin → List (List ℕ)
 pin_fed p = fed.u64 (pin_word p)
 
--- Of so many keys as have one delay and one list of waves at their pins few differ in what is left out.
+-- Of so many keys as have one delay and one list of waves at their pins few differ in what is left
+-- out.
 abbrev pub key_fed : Key → List (List ℕ)
 key_fed k = fed.u32 (k.least * 65536 + k.greatest) ++ fed.slice pin_fed k.pins
 
@@ -68,7 +71,8 @@ pub record AreConstants (h : Header) (table : List (Wave Value)) (k : Constants)
   pub one : IsNumber table (constant_wave h true) k.one
 
 -- The key says of the instance, among these waves of all nets, what its output depends on.
-pub record IsKeyOf (c : Circuit) (table : List (Wave Value)) (ws : Waves) (j : Instance) (k : Key) : Type 0 where
+pub record IsKeyOf (c : Circuit) (table : List (Wave Value)) (ws : Waves) (j : Instance)
+    (k : Key) : Type 0 where
   pub kind : k.kind ≡ j.kind
   pub delay : delay_of k ≡ j.delay
   pub split : split_of k ≡ j.split

@@ -1,4 +1,5 @@
--- The nets of a class, the first of which stands for all of them: it alone is evaluated, and they all change to its wave.
+-- The nets of a class, the first of which stands for all of them: it alone is evaluated, and they
+-- all change to its wave.
 use Rattle.std.specs.Prelude.{◌≡◌, ℕ, zero, suc, ◌<◌, ◌≤◌, ◌==◌, Bool, true, ◌&&◌, nat_lt, if◌then◌else◌, List, [], ◌∷◌, length, map, slice_index_or, Option, Some, None}
 use Rattle.std.specs.List.{flat_map, list_any, range_with_len}
 use Rattle.flat_circuit.specs.Alike.{class_of}
@@ -12,16 +13,20 @@ use Rattle.fixpoint_engine.specs.Classes.{class_work_to, is_first}
 -- the last net of a class below a number
 unfoldable pub last_below : List ℕ → ℕ → ℕ → Option ℕ
 last_below classes class zero = None
-last_below classes class (suc i) = if class_of classes i == class then Some i else last_below classes class i
+last_below classes class (suc i) =
+    if class_of classes i == class then Some i else last_below classes class i
 
 -- the nets of a class below a number, the last one first
 unfoldable pub members_below : List ℕ → ℕ → ℕ → List ℕ
 members_below classes class zero = []
-members_below classes class (suc i) = if class_of classes i == class then i ∷ members_below classes class i else members_below classes class i
+members_below classes class (suc i) =
+    if class_of classes i == class then i ∷ members_below classes class i
+    else members_below classes class i
 
 -- the change of a net, for each net of its class
 abbrev pub for_class : List ℕ → Change → List Change
-for_class classes ch = map (λ i. (i, ch.1)) (members_below classes (class_of classes ch.0) (length classes))
+for_class classes ch =
+    map (λ i. (i, ch.1)) (members_below classes (class_of classes ch.0) (length classes))
 
 -- these changes, each for all nets of its class
 abbrev pub for_classes : List ℕ → List Change → List Change
@@ -29,7 +34,8 @@ for_classes classes changes = flat_map (for_class classes) changes
 
 -- The last net of a class so far: in a list by the class's number, or else by a map.
 abbrev pub last_in : List (Option ℕ) → (ℕ → Option ℕ) → ℕ → Option ℕ
-last_in near far class = if nat_lt class (length near) then slice_index_or near class None else far class
+last_in near far class =
+    if nat_lt class (length near) then slice_index_or near class None else far class
 
 -- what is known of the first nets of the classes of the nets below a number
 pub record AreFirsts (ks firsts : List ℕ) (m : ℕ) : Type 0 where
@@ -41,12 +47,16 @@ pub record AreFirsts (ks firsts : List ℕ) (m : ℕ) : Type 0 where
 -- for each first net the last one of its class below a number
 pub record AreLasts (ks lasts : List ℕ) (m : ℕ) : Type 0 where
   pub each_net : length lasts ≡ m
-  pub is : (i : ℕ) → i < m → is_first ks i ≡ true → Some (slice_index_or lasts i 0) ≡ last_below ks (class_of ks i) m
+  pub is : (i : ℕ) → i < m → is_first ks i ≡ true →
+      Some (slice_index_or lasts i 0) ≡ last_below ks (class_of ks i) m
 
--- For each net the last one of its class before it and the first one of its class, and for each of those the last one.
-pub record AreMembers (classes : List ℕ) (before : List (Option ℕ)) (firsts lasts : List ℕ) : Type 0 where
+-- For each net the last one of its class before it and the first one of its class, and for each of
+-- those the last one.
+pub record AreMembers (classes : List ℕ) (before : List (Option ℕ))
+    (firsts lasts : List ℕ) : Type 0 where
   pub each_net : length before ≡ length classes
-  pub before_is : (i : ℕ) → i < length classes → slice_index_or before i None ≡ last_below classes (class_of classes i) i
+  pub before_is : (i : ℕ) → i < length classes →
+      slice_index_or before i None ≡ last_below classes (class_of classes i) i
   pub firsts_are : AreFirsts classes firsts (length classes)
   pub lasts_are : AreLasts classes lasts (length classes)
 

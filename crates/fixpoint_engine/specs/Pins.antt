@@ -21,7 +21,8 @@ wire_to choice i = slice_index_or choice.wires i 0
 abbrev pub pin_at : Run → Instance → Choice → ℕ → Signal
 pin_at run j choice i = nth_signal (pin_signals run j.pins choice.wires) i
 
--- The step of pin i at tick t lies at a given tick or later, and in the run: its net has both bits, a wire's delay before.
+-- The step of pin i at tick t lies at a given tick or later, and in the run: its net has both bits,
+-- a wire's delay before.
 pub record StepsFrom (run : Run) (choice : Choice) (i start t : ℕ) : Type 0 where
   pub after : start ≤ t
   pub begins : wire_to choice i + 1 ≤ t
@@ -29,15 +30,18 @@ pub record StepsFrom (run : Run) (choice : Choice) (i start t : ℕ) : Type 0 wh
 
 -- ---- waves at pins
 
--- The wave at each pin of an instance permits the steps of the pin that lie in the run, at ticks from a given one on.
+-- The wave at each pin of an instance permits the steps of the pin that lie in the run, at ticks
+-- from a given one on.
 abbrev pub PinsPermit : Circuit → Waves → Run → Instance → Choice → ℕ → Type 0
 PinsPermit c ws run j choice start =
-    (i : ℕ) → i < length j.pins → Permits values (wave_of_pin (pin_waves c ws j) i) run.ticks (pin_at run j choice i) (max start (wire_to choice i + 1))
+    (i : ℕ) → i < length j.pins → Permits values (wave_of_pin (pin_waves c ws j) i) run.ticks
+    (pin_at run j choice i) (max start (wire_to choice i + 1))
 
 -- the same of the instance of a number
 abbrev pub PinsPermitAt : Circuit → Waves → Run → ℕ → ℕ → Type 0
 PinsPermitAt c ws run k start =
-    (j : Instance) (choice : Choice) → slice_get c.instances k ≡ Some j → slice_get run.choices k ≡ Some choice → PinsPermit c ws run j choice start
+    (j : Instance) (choice : Choice) → slice_get c.instances k ≡ Some j →
+    slice_get run.choices k ≡ Some choice → PinsPermit c ws run j choice start
 
 -- the values of a period's slots, read round it
 abbrev pub read : List Value → ℕ → Value

@@ -1,4 +1,5 @@
--- Rounds: from given waves, each of some nets takes what its driver makes of the waves of the round before, all at once.
+-- Rounds: from given waves, each of some nets takes what its driver makes of the waves of the round
+-- before, all at once.
 use Rattle.std.specs.Prelude.{◌≡◌, ◌≢◌, ℕ, zero, suc, ◌<◌, ◌≤◌, Bool, if◌then◌else◌, List, length, Option, Some, None}
 use Rattle.step_values.specs.declared.value.Value.{Value}
 use Rattle.skew_algebra.specs.Wave.{Wave}
@@ -42,8 +43,8 @@ pub record DiffersFirst (order : List ℕ) (ws vs : Waves) (place : ℕ) : Type 
   pub differs : ws (net_at order place) ≢ vs (net_at order place)
   pub same : (k : ℕ) → k < place → ws (net_at order k) ≡ vs (net_at order k)
 
--- No round up to the limit is as the next one, and at the limit this net is the first, in the order of names, that still
--- differs.
+-- No round up to the limit is as the next one, and at the limit this net is the first, in the order
+-- of names, that still differs.
 pub record IsUnsettled (order : List ℕ) (rounds : ℕ → Waves) (limit place : ℕ) : Type 0 where
   pub never : (r : ℕ) → r ≤ limit → ¬ AreSame (rounds (suc r)) (rounds r)
   pub first : DiffersFirst order (rounds limit) (rounds (suc limit)) place

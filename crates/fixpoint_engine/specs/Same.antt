@@ -18,7 +18,8 @@ same_wave w v = (w.skew == v.skew) && pointwise same w.cells v.cells
 
 same_cells : (xs ys : List Value) → Decides (pointwise same xs ys) (xs ≡ ys)
 same_cells =
-    pointwise_decides (λ v w. (values_lawful.same_is v w, λ e. sym (ap (same v) e) ∙ values_lawful.same_self v))
+    pointwise_decides (λ v w.
+    (values_lawful.same_is v w, λ e. sym (ap (same v) e) ∙ values_lawful.same_self v))
 
 pub same_wave_decides : (w v : Wave Value) → Decides (same_wave w v) (w ≡ v)
 same_wave_decides w v = (

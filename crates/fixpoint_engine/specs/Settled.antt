@@ -1,4 +1,5 @@
--- What it means that rounds have settled: the next round is the same, and the waves permit every run that those at the start do.
+-- What it means that rounds have settled: the next round is the same, and the waves permit every
+-- run that those at the start do.
 use Rattle.std.specs.Prelude.{◌≡◌, ℕ, ◌+◌, ◌*◌, ◌≤◌, Bool, true, false, List, slice_index_or, is_some}
 use Rattle.flat_circuit.specs.Circuit.{Circuit, driver_at}
 use Rattle.flat_circuit.specs.Run.{Run, IsRun}
@@ -16,11 +17,13 @@ abbrev pub FitActive : Circuit → List Bool → Type 0
 FitActive c active = (i : ℕ) → marked_in active i ≡ true → is_some (driver_at c.nets i) ≡ true
 
 -- the waves are those of the first round that the next one equals
-pub record AreAtRest (c : Circuit) (active : ℕ → Bool) (start : Waves) (limit r : ℕ) (settled : Waves) : Type 0 where
+pub record AreAtRest (c : Circuit) (active : ℕ → Bool) (start : Waves) (limit r : ℕ)
+    (settled : Waves) : Type 0 where
   pub rests : RestsAt (round c active start) limit r
   pub waves : AreSame settled (round c active start r)
 
 -- Each round needs `reach` ticks more until its waves permit a run.
 abbrev pub KeepRuns : Circuit → Waves → ℕ → Waves → Type 0
 KeepRuns c start r settled =
-    (run : Run) (v : ℕ) → IsRun c run → 1 ≤ v → PermitRun c run start v → PermitRun c run settled (v + r * reach c)
+    (run : Run) (v : ℕ) → IsRun c run → 1 ≤ v → PermitRun c run start v →
+    PermitRun c run settled (v + r * reach c)

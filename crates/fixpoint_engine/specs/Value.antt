@@ -1,5 +1,5 @@
--- What an instance makes of the waves of all nets: the waves at its pins, what its kind makes of them, and its output's
--- complement, in normal form.
+-- What an instance makes of the waves of all nets: the waves at its pins, what its kind makes of
+-- them, and its output's complement, in normal form.
 use Rattle.std.specs.Prelude.{ℕ, Bool, List, if◌then◌else◌, Option, Some, None}
 use Rattle.scald_base.specs.Time.{Bounds}
 use Rattle.step_values.specs.declared.value.Value.{Value}
@@ -30,8 +30,8 @@ made_in (Register forced) kind waves marked d split = storage_wave kind waves d
 made_in (Enabled forced) kind waves marked d split = storage_wave kind waves d
 made_in (Checker check) kind waves marked d split = gate_wave kind waves marked d
 
--- What a kind makes of the waves at its pins, its delay or its two delays counted in. A checker has no output, so that
--- nothing asks what it makes.
+-- What a kind makes of the waves at its pins, its delay or its two delays counted in. A checker has
+-- no output, so that nothing asks what it makes.
 abbrev pub made_by : Kind → List (Wave Value) → Option ℕ → Bounds → Option Split → Wave Value
 made_by kind waves marked d split = by_form (λ form. made_in form kind waves marked d split) kind
 
@@ -41,4 +41,5 @@ turned_wave inverted w = if inverted then flipped values w else w
 
 unfoldable pub instance_wave : Circuit → Waves → Instance → Wave Value
 instance_wave c ws j =
-    normal values (turned_wave j.out_inverted (made_by j.kind (pin_waves c ws j) (marked_pin j) j.delay j.split))
+    normal values (turned_wave j.out_inverted
+    (made_by j.kind (pin_waves c ws j) (marked_pin j) j.delay j.split))

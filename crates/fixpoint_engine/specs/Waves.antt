@@ -27,7 +27,8 @@ pub record FitWaves (c : Circuit) (waves : List (Wave Value)) : Type 0 where
 
 -- ---- at pins
 
--- the wave of what a pin is on, and the bounds of the wire that leads from there: a constant has none
+-- the wave of what a pin is on, and the bounds of the wire that leads from there: a constant has
+-- none
 abbrev pub target_wave : Header → Waves → Target → Wave Value
 target_wave h ws (OnNet i) = ws i
 target_wave h ws (Constant one) = constant_wave h one
@@ -38,7 +39,8 @@ target_wire nets (Constant one) = record { min = 0; max = 0 }
 
 -- the wave that a pin shows
 abbrev pub pin_wave : Circuit → Waves → Pin → Wave Value
-pin_wave c ws p = wave_behind (target_wave c.header ws p.target) (target_wire c.nets p.target) p.inverted
+pin_wave c ws p =
+    wave_behind (target_wave c.header ws p.target) (target_wire c.nets p.target) p.inverted
 
 abbrev pub pin_waves : Circuit → Waves → Instance → List (Wave Value)
 pin_waves c ws j = map (pin_wave c ws) j.pins

@@ -22,19 +22,21 @@ is_on_any nets (Constant one) = false
 -- whether a listening pin is on one of the nets, of pins whose places count from one on
 abbrev pub hears_from : (ℕ → Bool) → Kind → ℕ → List Pin → Bool
 hears_from nets kind place [] = false
-hears_from nets kind place (p ∷ ps) = (listens kind place && is_on_any nets p.target) || hears_from nets kind (place + 1) ps
+hears_from nets kind place (p ∷ ps) =
+    (listens kind place && is_on_any nets p.target) || hears_from nets kind (place + 1) ps
 
 -- whether an instance listens to one of the nets
 abbrev pub hears_in : (ℕ → Bool) → Option Instance → Bool
 hears_in nets None = false
 hears_in nets (Some j) = hears_from nets j.kind 0 j.pins
 
--- A net is due in round 1 where it is active, and in a later round where it is active and its driver listens to a net
--- whose waves differ in the two rounds before.
+-- A net is due in round 1 where it is active, and in a later round where it is active and its
+-- driver listens to a net whose waves differ in the two rounds before.
 unfoldable pub is_due : Circuit → (ℕ → Bool) → (ℕ → Waves) → ℕ → ℕ → Bool
 is_due c active rounds zero i = false
 is_due c active rounds (suc zero) i = active i
-is_due c active rounds (suc (suc r)) i = active i && hears_in (differs (rounds r) (rounds (suc r))) (driver c i)
+is_due c active rounds (suc (suc r)) i =
+    active i && hears_in (differs (rounds r) (rounds (suc r))) (driver c i)
 
 -- how many nets are due in a round
 abbrev pub due_count : Circuit → (ℕ → Bool) → (ℕ → Waves) → ℕ → ℕ

@@ -33,7 +33,8 @@ Change = ℕ × Wave Value
 
 -- what evaluating these nets changes
 abbrev pub changes_of : Circuit → Waves → List ℕ → List Change
-changes_of c ws nets = filter (λ (ch : Change). not (same_wave ch.1 (ws ch.0))) (map (λ i. (i, evaluated c ws i)) nets)
+changes_of c ws nets =
+    filter (λ (ch : Change). not (same_wave ch.1 (ws ch.0))) (map (λ i. (i, evaluated c ws i)) nets)
 
 -- the waves after the changes
 abbrev pub changed : List (Wave Value) → List Change → List (Wave Value)

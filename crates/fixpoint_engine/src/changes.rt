@@ -46,7 +46,8 @@ fn add_change<W: CyclicWave<Item = Value>>(
     ensures known { OnOk result (AreKnown store.new (map (λ ch. ch.number) made.new.items)) }
     ensures made { let before = waves_of (waves_at store.old numbers.now) in
         OnOk result (map (λ ch. (ch.net, wave_at store.new ch.number)) made.new.items
-        ≡ map (λ ch. (ch.net, wave_at store.old ch.number)) made.old.items ++ changes_of c.now before (net ∷ [])) }
+        ≡ map (λ ch. (ch.net, wave_at store.old ch.number)) made.old.items
+        ++ changes_of c.now before (net ∷ [])) }
 {
     let number = evaluated(alloc, c, store, constants, numbers, net)?;
     store.known();
@@ -88,14 +89,16 @@ pub fn apply(numbers: &mut Numbers, changes: &[Change])
     ensures known { (table : List (Wave OfValues)) → AreKnown table numbers.old →
         AreKnown table (map (λ ch. ch.number) changes.now) → AreKnown table numbers.new }
     ensures changed { (table : List (Wave OfValues)) → waves_at table numbers.new
-        ≡ changed (waves_at table numbers.old) (map (λ ch. (ch.net, wave_at table ch.number)) changes.now) }
+        ≡ changed (waves_at table numbers.old)
+        (map (λ ch. (ch.net, wave_at table ch.number)) changes.now) }
 {
     for change in changes {
         numbers.set(change.net as usize, change.number);
     }
 }
 
-/// Puts the number of a new wave in the place of the old one, for all nets of the class of the net that changes.
+/// Puts the number of a new wave in the place of the old one, for all nets of the class of the net
+/// that changes.
 fn apply_class(numbers: &mut Numbers, classes: &ClassNets, change: Change)
     requires each_net { length classes.now ≡ length numbers.old }
     requires first { leads_in (Some classes.now) change.net ≡ true }
@@ -103,7 +106,8 @@ fn apply_class(numbers: &mut Numbers, classes: &ClassNets, change: Change)
     ensures known { (table : List (Wave OfValues)) → AreKnown table numbers.old →
         change.number < length table → AreKnown table numbers.new }
     ensures changed { (table : List (Wave OfValues)) → waves_at table numbers.new
-        ≡ changed (waves_at table numbers.old) (for_class classes.now (change.net, wave_at table change.number)) }
+        ≡ changed (waves_at table numbers.old)
+        (for_class classes.now (change.net, wave_at table change.number)) }
 {
     let mut at = classes.last(change.net);
     while let Some(net) = at {

@@ -18,7 +18,8 @@ use std::alloc::Global;
 /// The change of a net, for each net of its class, however its number is read.
 fn add_class(made: &mut Vec<Change>, classes: &ClassNets, change: Change) -> Result<(), NoMemory>
     requires { leads_in (Some classes.now) change.net ≡ true }
-    ensures { OnOk result ((read : ℕ → Wave OfValues) → map (λ ch. (ch.net, read ch.number)) made.new.items
+    ensures { OnOk result ((read : ℕ → Wave OfValues) →
+        map (λ ch. (ch.net, read ch.number)) made.new.items
         ≡ map (λ ch. (ch.net, read ch.number)) made.old.items
         ++ for_class classes.now (change.net, read change.number)) }
 {
@@ -40,7 +41,8 @@ fn for_classes(
     changes: &[Change],
 ) -> Result<Vec<Change>, NoMemory>
     requires { All (λ ch. leads_in (Some classes.now) ch.net ≡ true) changes.now }
-    ensures { IfOk result (λ made. (read : ℕ → Wave OfValues) → map (λ ch. (ch.net, read ch.number)) made.items
+    ensures { IfOk result (λ made.
+        (read : ℕ → Wave OfValues) → map (λ ch. (ch.net, read ch.number)) made.items
         ≡ for_classes classes.now (map (λ ch. (ch.net, read ch.number)) changes.now)) }
 {
     let mut made = Vec::new(alloc);
@@ -57,8 +59,10 @@ pub fn for_all(
     changes: &[Change],
 ) -> Result<Vec<Change>, NoMemory>
     requires { All (λ ch. leads_in (option_copied classes) ch.net ≡ true) changes.now }
-    ensures { IfOk result (λ made. (read : ℕ → Wave OfValues) → map (λ ch. (ch.net, read ch.number)) made.items
-        ≡ for_all (option_copied classes.entry) (map (λ ch. (ch.net, read ch.number)) changes.now)) }
+    ensures { IfOk result (λ made.
+        (read : ℕ → Wave OfValues) → map (λ ch. (ch.net, read ch.number)) made.items
+        ≡ for_all (option_copied classes.entry)
+        (map (λ ch. (ch.net, read ch.number)) changes.now)) }
 {
     match classes {
         Some(classes) => for_classes(alloc, classes, changes),
@@ -66,7 +70,8 @@ pub fn for_all(
     }
 }
 
-/// Puts the numbers of the new waves in the place of the old ones, for all nets for which those stand that change.
+/// Puts the numbers of the new waves in the place of the old ones, for all nets for which those
+/// stand that change.
 pub fn apply_all(numbers: &mut Numbers, classes: Option<&ClassNets>, changes: &[Change])
     requires each_net { IfSome (option_copied classes) (λ each. length each ≡ length numbers.old) }
     requires exist { All (λ ch. ch.net < length numbers.old) changes.now }
@@ -75,7 +80,8 @@ pub fn apply_all(numbers: &mut Numbers, classes: Option<&ClassNets>, changes: &[
         AreKnown table (map (λ ch. ch.number) changes.now) → AreKnown table numbers.new }
     ensures changed { (table : List (Wave OfValues)) → waves_at table numbers.new
         ≡ changed (waves_at table numbers.old)
-        (for_all (option_copied classes.entry) (map (λ ch. (ch.net, wave_at table ch.number)) changes.now)) }
+        (for_all (option_copied classes.entry)
+        (map (λ ch. (ch.net, wave_at table ch.number)) changes.now)) }
 {
     match classes {
         Some(classes) => apply_classes(numbers, classes, changes),

@@ -32,7 +32,8 @@ impl Model for ClassNets {
 
     ghost view = { λ t. t.classes.items };
 
-    ghost invariant = { λ t. AreMembers t.classes.items t.before.items t.firsts.items t.lasts.items };
+    ghost invariant = { λ t.
+        AreMembers t.classes.items t.before.items t.firsts.items t.lasts.items };
 }
 
 impl ClassNets {
@@ -101,8 +102,8 @@ impl ClassNets {
     }
 }
 
-/// Whether a net is evaluated in the rounds in which it is due: it is active and the first of its class.
-/// Where there are no classes, each net is one of its own.
+/// Whether a net is evaluated in the rounds in which it is due: it is active and the first of its
+/// class. Where there are no classes, each net is one of its own.
 pub fn is_evaluated(active: &NetSet, classes: Option<&ClassNets>, net: u32) -> bool
     ensures { result ≡ is_evaluated active.now (option_copied classes.entry) net }
 {

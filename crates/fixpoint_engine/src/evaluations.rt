@@ -16,8 +16,8 @@ use std::marker::Model;
 use step_values::Value;
 use wave_core::CyclicWave;
 
-/// A table of waves, and for each key that was evaluated the number of what it makes. Contracts see the
-/// list of the waves: what is remembered of keys shows in no result.
+/// A table of waves, and for each key that was evaluated the number of what it makes. Contracts see
+/// the list of the waves: what is remembered of keys shows in no result.
 #[derive(Drop)]
 pub struct Evaluations<W: CyclicWave<Item = Value>, K: Evaluated> {
     waves: WaveTable<W>,
@@ -97,7 +97,8 @@ impl<W: CyclicWave<Item = Value>, K: Evaluated> Evaluations<W, K> {
         self.made.get(key).copied()
     }
 
-    /// The number of what a key makes, which is remembered. The key takes so many words of four bytes.
+    /// The number of what a key makes, which is remembered. The key takes so many words of four
+    /// bytes.
     pub fn remember(&mut self, key: K, words: usize, wave: Skewed<W>) -> Result<u32, NoMemory>
         requires known { AreKnown self.old (K.reads key) }
         requires made { wave ≡ value_of K.reads K.makes self.old key }
@@ -132,8 +133,9 @@ impl<W: CyclicWave<Item = Value>, K: Evaluated> Evaluations<W, K> {
         Ok(words)
     }
 
-    /// Whether it is time to forget all that is not needed for the waves of these numbers: since waves were last
-    /// forgotten, more came in than twice what those waves take, and more than 16 MB.
+    /// Whether it is time to forget all that is not needed for the waves of these numbers: since
+    /// waves were last forgotten, more came in than twice what those waves take, and more than 16
+    /// MB.
     pub fn is_long(&mut self, alloc: Global, numbers: &[u32]) -> Result<bool, NoMemory>
         requires { AreKnown self.old numbers.now }
         ensures { self.new ≡ self.old }
@@ -145,7 +147,8 @@ impl<W: CyclicWave<Item = Value>, K: Evaluated> Evaluations<W, K> {
         Ok(self.recent.is_beyond(needed))
     }
 
-    /// The same of what came in since all was last forgotten but the waves of some numbers (`kept` was 0).
+    /// The same of what came in since all was last forgotten but the waves of some numbers (`kept`
+    /// was 0).
     pub fn is_long_in_all(&mut self, alloc: Global, numbers: &[u32]) -> Result<bool, NoMemory>
         requires { AreKnown self.old numbers.now }
         ensures { self.new ≡ self.old }
@@ -157,7 +160,8 @@ impl<W: CyclicWave<Item = Value>, K: Evaluated> Evaluations<W, K> {
         Ok(self.whole.is_beyond(needed))
     }
 
-    /// Forgets all evaluations, and all waves but the first so many, whose numbers stay as they are.
+    /// Forgets all evaluations, and all waves but the first so many, whose numbers stay as they
+    /// are.
     fn cut(&mut self, kept: usize)
         ensures { self.new ≡ take kept self.old }
     {
@@ -165,7 +169,8 @@ impl<W: CyclicWave<Item = Value>, K: Evaluated> Evaluations<W, K> {
         self.waves.cut(kept);
     }
 
-    /// The numbers of the waves that another table has by these numbers, each of which is copied where it is not here.
+    /// The numbers of the waves that another table has by these numbers, each of which is copied
+    /// where it is not here.
     fn take_in(
         &mut self,
         alloc: Global,
@@ -175,7 +180,8 @@ impl<W: CyclicWave<Item = Value>, K: Evaluated> Evaluations<W, K> {
         requires { AreKnown table.now numbers.now }
         ensures grows { Grows self.old self.new }
         ensures known { IfOk result (AreKnown self.new) }
-        ensures same { IfOk result (λ here. waves_at self.new here ≡ waves_at table.now numbers.now) }
+        ensures same { IfOk result (λ here.
+            waves_at self.new here ≡ waves_at table.now numbers.now) }
     {
         let mut here: Numbers = List::new(alloc);
         for number in numbers {
@@ -186,9 +192,9 @@ impl<W: CyclicWave<Item = Value>, K: Evaluated> Evaluations<W, K> {
         Ok(here)
     }
 
-    /// Forgets all evaluations, and of the waves all but the first so many, whose numbers stay as they are, and those
-    /// of these numbers, which get new ones: the answer has them in the same order. Where memory runs out the
-    /// first waves are still there.
+    /// Forgets all evaluations, and of the waves all but the first so many, whose numbers stay as
+    /// they are, and those of these numbers, which get new ones: the answer has them in the same
+    /// order. Where memory runs out the first waves are still there.
     pub fn compact(
         &mut self,
         alloc: Global,
@@ -198,7 +204,8 @@ impl<W: CyclicWave<Item = Value>, K: Evaluated> Evaluations<W, K> {
         requires { AreKnown self.old numbers.now }
         ensures grows { Grows (take kept self.old) self.new }
         ensures known { IfOk result (AreKnown self.new) }
-        ensures same { IfOk result (λ there. waves_at self.new there ≡ waves_at self.old numbers.now) }
+        ensures same { IfOk result (λ there.
+            waves_at self.new there ≡ waves_at self.old numbers.now) }
     {
         let mut used: WaveTable<W> = WaveTable::new(alloc);
         let places = renumbered(alloc, &self.waves, numbers, &mut used)?;

@@ -7,8 +7,9 @@ use std::hash::Hasher;
 use step_values::Value;
 use wave_core::CyclicWave;
 
-/// Feeds the cells of a wave to a hasher, in one write for each run of equal cells: waves that differ in a
-/// cell mostly differ in a write, and the cost is that of the changes and not of the slots.
+/// Feeds the cells of a wave to a hasher, in one write for each run of equal cells: waves that
+/// differ in a cell mostly differ in a write, and the cost is that of the changes and not of the
+/// slots.
 pub fn feed<W: CyclicWave<Item = Value>, H: Hasher>(wave: &W, state: &mut H)
     ensures { state.new ≡ fold H.write state.old (cells_fed (W.cells wave.now)) }
 {

@@ -57,8 +57,8 @@ impl Growth {
         self.words > self.look
     }
 
-    /// Whether more came in than twice what is needed, and more than is spare. If not, it is looked again when as
-    /// much came in as is spare.
+    /// Whether more came in than twice what is needed, and more than is spare. If not, it is looked
+    /// again when as much came in as is spare.
     pub fn is_beyond(&mut self, needed: usize) -> bool {
         if self.words > needed.saturating_mul(2).saturating_add(SPARE_WORDS) {
             return true;

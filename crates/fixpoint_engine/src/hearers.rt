@@ -12,17 +12,17 @@ ghost use Rattle.fixpoint_engine.specs.Hearers.{AreHearers, hears_class, is_net,
 
 use crate::class_nets::ClassNets;
 use element_kinds::Kind;
-use flat_circuit::{Circuit, Few, Pin};
+use flat_circuit::{Circuit, Pin, ShortList};
 use scald_base::NoMemory;
 use std::alloc::Global;
 use std::marker::Model;
 use vector_names::Target;
 
 /// The nets that hear one class, of which most have one or two.
-type Row = Few<u32>;
+type Row = ShortList<u32>;
 
-/// For each class the nets that stand for theirs and whose drivers listen to a net of the class. So a round
-/// costs what hears the classes that change, and not all of their nets.
+/// For each class the nets that stand for theirs and whose drivers listen to a net of the class. So
+/// a round costs what hears the classes that change, and not all of their nets.
 #[derive(Drop)]
 pub struct Hearers {
     /// At each net that stands for its class, what hears the class.
@@ -47,12 +47,14 @@ fn empty_rows(alloc: Global, count: u32) -> Result<Vec<Row>, NoMemory>
     Ok(rows)
 }
 
-/// The net that stands for the class of what a pin is on, where the pin is on a net and its kind listens to it.
+/// The net that stands for the class of what a pin is on, where the pin is on a net and its kind
+/// listens to it.
 fn heard(classes: &ClassNets, kind: Kind, place: usize, target: Target) -> Option<u32>
     requires { TargetExists (length classes.now) target }
     ensures first { IfSome result (λ first. leads_in (Some classes.now) first ≡ true) }
     ensures is { (net : ℕ) → leads_in (Some classes.now) net ≡ true → is_net result net
-        ≡ (listens kind place && is_on_any (λ j. class_of classes.now net == class_of classes.now j) target) }
+        ≡ (listens kind place && is_on_any (λ j.
+        class_of classes.now net == class_of classes.now j) target) }
 {
     if !kind.listens(place) {
         return None;
@@ -88,7 +90,8 @@ fn add_pin(
     ensures long { OnOk result (length rows.new.items ≡ length rows.old.items) }
     ensures added { OnOk result ((first i : ℕ) → leads_in (Some classes.now) first ≡ true →
         among (row_of rows.new.items first) i ≡ (among (row_of rows.old.items first) i
-        || ((listens kind place && is_on_any (λ j. class_of classes.now first == class_of classes.now j) target)
+        || ((listens kind place && is_on_any (λ j.
+        class_of classes.now first == class_of classes.now j) target)
         && (net == i)))) }
 {
     match heard(classes, kind, place, target) {
@@ -110,7 +113,8 @@ fn add_pins(
     ensures long { OnOk result (length rows.new.items ≡ length rows.old.items) }
     ensures added { OnOk result ((first i : ℕ) → leads_in (Some classes.now) first ≡ true →
         among (row_of rows.new.items first) i ≡ (among (row_of rows.old.items first) i
-        || (hears_from (λ j. class_of classes.now first == class_of classes.now j) kind 0 pins.now && (net == i)))) }
+        || (hears_from (λ j. class_of classes.now first == class_of classes.now j) kind 0 pins.now
+        && (net == i)))) }
 {
     for place in 0..pins.len() {
         add_pin(rows, classes, kind, place, pins[place].target, net)?;

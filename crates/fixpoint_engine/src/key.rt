@@ -19,8 +19,8 @@ use std::hash::{Hash, Hasher};
 use step_values::Value;
 use wave_core::CyclicWave;
 
-/// A pin of an element: the number of the wave of what it is on, the bounds of the wire that leads from there, in
-/// ticks, whether it shows the complement, and whether it is marked `!H`.
+/// A pin of an element: the number of the wave of what it is on, the bounds of the wire that leads
+/// from there, in ticks, whether it shows the complement, and whether it is marked `!H`.
 #[derive(Clone, Copy, PartialEq, Eq, Drop)]
 pub struct KeyPin {
     pub wave: u32,
@@ -53,8 +53,8 @@ impl Hash for KeyPin {
     }
 }
 
-/// What the output of an element depends on. With two delays the bounds of each stand here, and else 0; the least
-/// and the greatest delay are then those of both.
+/// What the output of an element depends on. With two delays the bounds of each stand here, and
+/// else 0; the least and the greatest delay are then those of both.
 #[derive(PartialEq, Eq, Drop)]
 pub struct Key {
     pub kind: Kind,
@@ -164,7 +164,8 @@ fn key_pin(c: &Circuit, constants: Constants, numbers: &[u32], pin: Pin) -> KeyP
     ensures known { (table : List (Wave OfValues)) → AreConstants c.now.header table constants →
         AreKnown table numbers.now → result.wave < length table }
     ensures shows { (table : List (Wave OfValues)) → AreConstants c.now.header table constants →
-        shown_by result (wave_at table result.wave) ≡ wave_shown c.now (waves_of (waves_at table numbers.now)) pin }
+        shown_by result (wave_at table result.wave)
+        ≡ wave_shown c.now (waves_of (waves_at table numbers.now)) pin }
 {
     let wire = wire_behind(c, pin.target);
     KeyPin {
@@ -187,9 +188,11 @@ fn key_pins(
     requires exist { All (PinExists (length c.now.nets)) pins.now }
     requires each_net { length numbers.now ≡ length c.now.nets }
     ensures marks { IfOk result (λ keys. map (λ p. p.hold) keys ≡ map (λ p. p.hold) pins.now) }
-    ensures known { IfOk result (λ keys. (table : List (Wave OfValues)) → AreConstants c.now.header table constants →
+    ensures known { IfOk result (λ keys.
+        (table : List (Wave OfValues)) → AreConstants c.now.header table constants →
         AreKnown table numbers.now → AreKnown table (map (λ p. p.wave) keys)) }
-    ensures shows { IfOk result (λ keys. (table : List (Wave OfValues)) → AreConstants c.now.header table constants →
+    ensures shows { IfOk result (λ keys.
+        (table : List (Wave OfValues)) → AreConstants c.now.header table constants →
         map (λ p. shown_by p (wave_at table p.wave)) keys
         ≡ map (wave_shown c.now (waves_of (waves_at table numbers.now))) pins.now) }
 {

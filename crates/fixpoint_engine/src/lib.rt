@@ -2,10 +2,10 @@
 //! drivers make of the waves of the round before, until nothing changes.
 //!
 //! The layer above calls [`settle`], which answers the settled waves, or the net that still changes
-//! at the limit, or [`settle_classes`], which answers the same where one net of each class may stand
-//! for all. `specs/Value` says what an instance makes of all waves, `specs/Rounds` what a round is
-//! and when rounds settle, and `specs/Settled` which runs the waves permit. Checks read what pins
-//! show by [`waves_at_pins`] (`specs/Waves`, `specs/Pins`).
+//! at the limit, or [`settle_classes`], which answers the same where one net of each class may
+//! stand for all. `specs/Value` says what an instance makes of all waves, `specs/Rounds` what a
+//! round is and when rounds settle, and `specs/Settled` which runs the waves permit. Checks read
+//! what pins show by [`waves_at_pins`] (`specs/Waves`, `specs/Pins`).
 //!
 //! A [`WaveTable`] keeps each wave once, under a number, and [`Evaluations`] the number of what was
 //! made of some waves, so that it is made once (`specs/Table`, `specs/Evaluation`, `specs/Key`).

@@ -7,8 +7,8 @@ use scald_base::NoMemory;
 use std::alloc::Global;
 use std::marker::Model;
 
-/// A set of nets, by their numbers. Contracts see a mark for each net, which is set where the net is
-/// in the set.
+/// A set of nets, by their numbers. Contracts see a mark for each net, which is set where the net
+/// is in the set.
 #[derive(Drop)]
 pub struct NetSet {
     marks: Vec<bool>,

@@ -31,8 +31,8 @@ pub fn numbers_of<W: CyclicWave<Item = Value>>(
     Ok(numbers)
 }
 
-/// The numbers that another table gives to the waves of these numbers, each of which is copied where it does not
-/// have it.
+/// The numbers that another table gives to the waves of these numbers, each of which is copied
+/// where it does not have it.
 pub fn renumbered<W: CyclicWave<Item = Value>>(
     alloc: Global,
     table: &WaveTable<W>,
@@ -42,7 +42,8 @@ pub fn renumbered<W: CyclicWave<Item = Value>>(
     requires { AreKnown table.now numbers.now }
     ensures grows { Grows other.old other.new }
     ensures known { IfOk result (AreKnown other.new) }
-    ensures same { IfOk result (λ there. waves_at other.new there ≡ waves_at table.now numbers.now) }
+    ensures same { IfOk result (λ there.
+        waves_at other.new there ≡ waves_at table.now numbers.now) }
 {
     let mut there: Numbers = List::new(alloc);
     for number in numbers {

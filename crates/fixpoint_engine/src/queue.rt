@@ -51,7 +51,8 @@ impl Queue {
         requires { FitActive c.now active.now }
         ensures each_net { IfOk result (λ q. length q.marks ≡ length c.now.nets) }
         ensures are { IfOk result (λ q.
-            (i : ℕ) → marked_in q.marks i ≡ is_evaluated active.now (option_copied classes.entry) i) }
+            (i : ℕ) → marked_in q.marks i ≡ is_evaluated active.now
+            (option_copied classes.entry) i) }
     {
         let mut queue = Queue {
             nets: Vec::new(alloc),
@@ -149,7 +150,8 @@ impl Queue {
         requires hearers { AreHearers c.now classes.now hearers.now }
         requires first { leads_in (Some classes.now) first ≡ true }
         ensures { OnOk result (Adds (λ i. is_evaluated active.now (Some classes.now) i
-            && hears_in (λ j. class_of classes.now first == class_of classes.now j) (driver c.now i))
+            && hears_in (λ j. class_of classes.now first == class_of classes.now j)
+            (driver c.now i))
             self.old self.new) }
     {
         let _ = c;
@@ -171,8 +173,8 @@ impl Queue {
         Ok(())
     }
 
-    /// In place of those that wait: the active nets that hear a class of which the first net changed, and stand for
-    /// theirs.
+    /// In place of those that wait: the active nets that hear a class of which the first net
+    /// changed, and stand for theirs.
     fn refill_firsts(
         &mut self,
         c: &Circuit,
@@ -196,8 +198,8 @@ impl Queue {
         Ok(())
     }
 
-    /// In place of those that wait: the active nets whose drivers listen to a net that changed, of each
-    /// class the first.
+    /// In place of those that wait: the active nets whose drivers listen to a net that changed, of
+    /// each class the first.
     fn refill(
         &mut self,
         c: &Circuit,
@@ -210,7 +212,8 @@ impl Queue {
         requires exist { All (λ ch. ch.net < length c.now.nets) changes.now }
         ensures each_net { OnOk result (length self.new.marks ≡ length c.now.nets) }
         ensures due { OnOk result
-            ((i : ℕ) → marked_in self.new.marks i ≡ (is_evaluated active.now (option_copied classes.entry) i
+            ((i : ℕ) → marked_in self.new.marks i
+            ≡ (is_evaluated active.now (option_copied classes.entry) i
             && hears_in (among (map (λ ch. ch.net) changes.now)) (driver c.now i))) }
     {
         self.clear();
@@ -220,8 +223,9 @@ impl Queue {
         Ok(())
     }
 
-    /// In place of those that wait: the active nets whose drivers listen to a net that changes with these, of each
-    /// class the first. Where there are classes, each of these nets stands for all of its own.
+    /// In place of those that wait: the active nets whose drivers listen to a net that changes with
+    /// these, of each class the first. Where there are classes, each of these nets stands for all
+    /// of its own.
     pub fn refill_all(
         &mut self,
         c: &Circuit,
@@ -232,13 +236,16 @@ impl Queue {
     ) -> Result<(), NoMemory>
         requires active { FitActive c.now active.now }
         requires each_net { length self.old.marks ≡ length c.now.nets }
-        requires classes { IfSome (option_copied classes) (λ each. length each ≡ length c.now.nets) }
-        requires hearers { IfSome (option_copied classes) (λ each. AreHearers c.now each hearers.now) }
+        requires classes { IfSome (option_copied classes) (λ each.
+            length each ≡ length c.now.nets) }
+        requires hearers { IfSome (option_copied classes) (λ each.
+            AreHearers c.now each hearers.now) }
         requires exist { All (λ ch. ch.net < length c.now.nets) changes.now }
         requires firsts { All (λ ch. leads_in (option_copied classes) ch.net ≡ true) changes.now }
         ensures each_net { OnOk result (length self.new.marks ≡ length c.now.nets) }
         ensures due { OnOk result
-            ((i : ℕ) → marked_in self.new.marks i ≡ (is_evaluated active.now (option_copied classes.entry) i
+            ((i : ℕ) → marked_in self.new.marks i
+            ≡ (is_evaluated active.now (option_copied classes.entry) i
             && hears_in (is_with_any (option_copied classes.entry) (map (λ ch. ch.net) changes.now))
             (driver c.now i))) }
     {

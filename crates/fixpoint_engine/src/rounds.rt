@@ -43,8 +43,8 @@ pub struct Settled {
 /// Why rounds gave no waves.
 #[derive(Clone, Copy, PartialEq, Eq, Debug)]
 pub enum EngineEnd {
-    /// The round at the limit, `round`, and the next one differ. The first net that differs stands at
-    /// this place, from 0, in name order.
+    /// The round at the limit, `round`, and the next one differ. The first net that differs stands
+    /// at this place, from 0, in name order.
     Unsettled { net: u32, round: u32 },
     /// Memory ran out.
     NoMemory,
@@ -64,7 +64,8 @@ impl From<NoMemory> for EngineEnd {
 /// The nets that change, as a set.
 fn changed_nets(alloc: Global, c: &Circuit, changes: &[Change]) -> Result<NetSet, NoMemory>
     requires { All (λ ch. ch.net < length c.now.nets) changes.now }
-    ensures { IfOk result (λ set. (i : ℕ) → marked_in set i ≡ among (map (λ ch. ch.net) changes.now) i) }
+    ensures { IfOk result (λ set.
+        (i : ℕ) → marked_in set i ≡ among (map (λ ch. ch.net) changes.now) i) }
 {
     let mut changed = NetSet::new(alloc, c.net_count())?;
     for change in changes {
@@ -76,7 +77,8 @@ fn changed_nets(alloc: Global, c: &Circuit, changes: &[Change]) -> Result<NetSet
 /// The place in name order of the first net of a set.
 fn first_named(c: &Circuit, set: &NetSet) -> Option<u32>
     ensures { MatchOption result ((k : ℕ) → k < length c.now.order →
-        marked_in set.now (net_at c.now.order k) ≡ false) (λ place. IsFirstIn c.now.order (marked_in set.now) place) }
+        marked_in set.now (net_at c.now.order k) ≡ false) (λ place.
+        IsFirstIn c.now.order (marked_in set.now) place) }
 {
     c.known();
     for place in 0..c.net_count() {
@@ -106,8 +108,9 @@ pub fn unsettled(
     }
 }
 
-/// The numbers of the same waves, of which the store forgets those that no net has, and all evaluations, where much
-/// came in: else rounds that come to ever new waves would take memory without end. The first waves are kept.
+/// The numbers of the same waves, of which the store forgets those that no net has, and all
+/// evaluations, where much came in: else rounds that come to ever new waves would take memory
+/// without end. The first waves are kept.
 fn shortened<W: CyclicWave<Item = Value>>(
     alloc: Global,
     store: &mut Store<W>,
@@ -150,9 +153,11 @@ pub fn settle<W: CyclicWave<Item = Value>>(
     requires known { AreKnown store.old start.now }
     requires waves { FitWaves c.now (waves_at store.old start.now) }
     requires active { FitActive c.now active.now }
-    requires hearers { IfSome (option_copied classes) (λ classes. AreHearers c.now classes hearers.now) }
+    requires hearers { IfSome (option_copied classes) (λ classes.
+        AreHearers c.now classes hearers.now) }
     requires classes { OneStandsForAll c.now (marked_in active.now)
-        (numbers_in (length c.now.nets) (option_copied classes)) (waves_of (waves_at store.old start.now)) }
+        (numbers_in (length c.now.nets) (option_copied classes))
+        (waves_of (waves_at store.old start.now)) }
     ensures grows { Grows store.old store.new }
     ensures known { IfOk result (λ s. AreKnown store.new s.numbers) }
     ensures rest { let first = waves_of (waves_at store.old start.now) in

@@ -25,8 +25,8 @@ pub fn has_one_wave<W: CyclicWave<Item = Value>>(
     before.at(net).same(waves.at(net))
 }
 
-/// Whether what a pin is on has one wave in both. The pin shows the same wave then, after the wire and the
-/// complement that are its own.
+/// Whether what a pin is on has one wave in both. The pin shows the same wave then, after the wire
+/// and the complement that are its own.
 pub fn has_one_wave_at<W: CyclicWave<Item = Value>>(
     c: &Circuit,
     before: &Waves<W>,

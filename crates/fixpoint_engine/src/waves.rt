@@ -10,7 +10,8 @@ use std::marker::Model;
 use step_values::Value;
 use wave_core::CyclicWave;
 
-/// The wave of each net, by its number, as the table has them. Contracts see the list of these waves.
+/// The wave of each net, by its number, as the table has them. Contracts see the list of these
+/// waves.
 #[derive(Drop)]
 pub struct Waves<'a, W: CyclicWave<Item = Value>> {
     table: &'a WaveTable<W>,

@@ -57,9 +57,10 @@ each_alone : LimitsFit eight_ticks MinPulse (Pulses 8 8)
 each_alone = (lit≤ tt, lit≤ tt)
 
 too_wide : ¬ LimitsFit eight_ticks MinPulse (Pulses 9 0) × ¬ LimitsFit eight_ticks MinPulse (Pulses 0 9)
-too_wide =
-    ((λ (fits : LimitsFit eight_ticks MinPulse (Pulses 9 0)). let high : 9 ≤ 8 = fits.0 in absurd (omega (arith, high))),
-    (λ (fits : LimitsFit eight_ticks MinPulse (Pulses 0 9)). let low : 9 ≤ 8 = fits.1 in absurd (omega (arith, low))))
+too_wide = (
+  (λ (fits : LimitsFit eight_ticks MinPulse (Pulses 9 0)). let high : 9 ≤ 8 = fits.0 in absurd (omega (arith, high))),
+  (λ (fits : LimitsFit eight_ticks MinPulse (Pulses 0 9)). let low : 9 ≤ 8 = fits.1 in absurd (omega (arith, low))),
+)
 
 -- a checker has limits of what it checks
 of_another : ¬ LimitsFit eight_ticks SetupHold (Pulses 0 0) × ¬ LimitsFit eight_ticks MinPulse (Edges 0 0)

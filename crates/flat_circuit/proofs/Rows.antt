@@ -11,7 +11,7 @@ use Rattle.flat_circuit.specs.declared.instance.Pin.{Pin}
 use Rattle.flat_circuit.specs.declared.instance.Instance.{Instance}
 use Rattle.element_kinds.specs.Kinds.{listens}
 use Rattle.flat_circuit.specs.Instances.{is_on, any_listens, reads, numbers_from, readers_of}
-use Rattle.flat_circuit.specs.Steps.{Row, row_at, row_noted, row_told, last_is, is_it, told_by, RowsTo}
+use Rattle.flat_circuit.specs.Steps.{Row, row_at, row_noted, pins_noted, last_is, is_it, noted_by, RowsTo}
 
 last_new : (row : Row) (k : ℕ) → slice_get (row ++ k ∷ []) (length row) ≡ Some k
 last_new [] k = refl
@@ -34,25 +34,25 @@ last_old (x ∷ xs) k (suc i) a = last_old xs k i (tail x xs k a) where
 noted_new : (row : Row) (k : ℕ) → All (λ r. r < k) row → row_noted row k ≡ row ++ k ∷ []
 noted_new row k a = rw (last_old row k (length row - 1) a) refl
 
-again : (kind : Kind) (i k t : ℕ) (ps : List Pin) (row : Row) → row_told kind i k t ps (row ++ k ∷ []) ≡ row ++ k ∷ []
+again : (kind : Kind) (i k t : ℕ) (ps : List Pin) (row : Row) → pins_noted kind i k t ps (row ++ k ∷ []) ≡ row ++ k ∷ []
 again kind i k t [] row = refl
 again kind i k t (p ∷ ps) row = rw (step (listens kind t && is_on i p.target)) (again kind i k (t + 1) ps row) where
   step : (b : Bool) → cond b (row_noted (row ++ k ∷ []) k) (row ++ k ∷ []) ≡ row ++ k ∷ []
   step true = noted_again row k
   step false = refl
 
-told_is : (kind : Kind) (i k t : ℕ) (ps : List Pin) (row : Row) → All (λ r. r < k) row → row_told kind i k t ps row ≡ cond (any_listens kind i t ps) (row ++ k ∷ []) row
-told_is kind i k t [] row a = refl
-told_is kind i k t (p ∷ ps) row a = step (listens kind t && is_on i p.target) (told_is kind i k (t + 1) ps row a) where
-  step : (b : Bool) → row_told kind i k (t + 1) ps row ≡ cond (any_listens kind i (t + 1) ps) (row ++ k ∷ []) row →
-      row_told kind i k (t + 1) ps (cond b (row_noted row k) row) ≡ cond (b || any_listens kind i (t + 1) ps) (row ++ k ∷ []) row
+noted_is : (kind : Kind) (i k t : ℕ) (ps : List Pin) (row : Row) → All (λ r. r < k) row → pins_noted kind i k t ps row ≡ cond (any_listens kind i t ps) (row ++ k ∷ []) row
+noted_is kind i k t [] row a = refl
+noted_is kind i k t (p ∷ ps) row a = step (listens kind t && is_on i p.target) (noted_is kind i k (t + 1) ps row a) where
+  step : (b : Bool) → pins_noted kind i k (t + 1) ps row ≡ cond (any_listens kind i (t + 1) ps) (row ++ k ∷ []) row →
+      pins_noted kind i k (t + 1) ps (cond b (row_noted row k) row) ≡ cond (b || any_listens kind i (t + 1) ps) (row ++ k ∷ []) row
   step true more = rw (noted_new row k a) (again kind i k (t + 1) ps row)
   step false more = more
 
-told_by_is : (j : Instance) (i k : ℕ) (row : Row) → All (λ r. r < k) row → told_by j i k row ≡ cond (reads i j) (row ++ k ∷ []) row
-told_by_is j i k row a = step (is_some j.out) where
-  step : (b : Bool) → cond b (row_told j.kind i k 0 j.pins row) row ≡ cond (b && any_listens j.kind i 0 j.pins) (row ++ k ∷ []) row
-  step true = told_is j.kind i k 0 j.pins row a
+noted_by_is : (j : Instance) (i k : ℕ) (row : Row) → All (λ r. r < k) row → noted_by j i k row ≡ cond (reads i j) (row ++ k ∷ []) row
+noted_by_is j i k row a = step (is_some j.out) where
+  step : (b : Bool) → cond b (pins_noted j.kind i k 0 j.pins row) row ≡ cond (b && any_listens j.kind i 0 j.pins) (row ++ k ∷ []) row
+  step true = noted_is j.kind i k 0 j.pins row a
   step false = refl
 
 none_at : (n i : ℕ) (a : ℕ) → row_at (map (λ _. []) (range_with_len a n)) i ≡ []
@@ -60,24 +60,24 @@ none_at zero i a = refl
 none_at (suc n) zero a = refl
 none_at (suc n) (suc i) a = none_at n i (a + 1)
 
-told_step : (b : Bool) (row : Row) (k : ℕ) (more : Row) → cond b (row ++ k ∷ []) row ++ more ≡ row ++ cond b (k ∷ more) more
-told_step true row k more = append_assoc row (k ∷ []) more
-told_step false row k more = refl
+noted_step : (b : Bool) (row : Row) (k : ℕ) (more : Row) → cond b (row ++ k ∷ []) row ++ more ≡ row ++ cond b (k ∷ more) more
+noted_step true row k more = append_assoc row (k ∷ []) more
+noted_step false row k more = refl
 
 pub rows_start : (js : List Instance) (n : ℕ) (rows : List Row) → rows ≡ map (λ _. []) (range_with_len 0 n) → RowsTo js n 0 rows
 rows_start js n rows e = subst (RowsTo js n 0) (sym e) (record {
   long = length-map-range_with_len (λ _. []) 0 n;
   below = λ i. rw (none_at n i 0) (All-nil (λ r. r < 0));
-  told = λ i h. rw (none_at n i 0) refl;
+  noted = λ i h. rw (none_at n i 0) refl;
 })
 
 pub rows_step : (js : List Instance) (n k : ℕ) (rows rows' : List Row) (j : Instance) → k < length js → j ≡ get_or js k j →
-    length rows' ≡ length rows → ((i : ℕ) → row_at rows' i ≡ told_by j i k (row_at rows i)) → RowsTo js n k rows → RowsTo js n (k + 1) rows'
-rows_step js n k rows rows' j l e long told h = record {
+    length rows' ≡ length rows → ((i : ℕ) → row_at rows' i ≡ noted_by j i k (row_at rows i)) → RowsTo js n k rows → RowsTo js n (k + 1) rows'
+rows_step js n k rows rows' j l e long noted h = record {
   long = long ∙ h.long;
-  below = λ i. rw (told i ∙ told_by_is j i k (row_at rows i) (h.below i)) (below_step (reads i j) (row_at rows i) (h.below i));
-  told = λ i b. rw (told i ∙ told_by_is j i k (row_at rows i) (h.below i)) (told_step (reads i j) (row_at rows i)
-      k (numbers_from (reads i) (k + 1) (drop (k + 1) js)) ∙ ap (λ x. row_at rows i ++ numbers_from (reads i) k x) (sym rest) ∙ h.told i b);
+  below = λ i. rw (noted i ∙ noted_by_is j i k (row_at rows i) (h.below i)) (below_step (reads i j) (row_at rows i) (h.below i));
+  noted = λ i b. rw (noted i ∙ noted_by_is j i k (row_at rows i) (h.below i)) (noted_step (reads i j) (row_at rows i)
+      k (numbers_from (reads i) (k + 1) (drop (k + 1) js)) ∙ ap (λ x. row_at rows i ++ numbers_from (reads i) k x) (sym rest) ∙ h.noted i b);
 } where
   below_step : (b : Bool) (row : Row) → All (λ r. r < k) row → All (λ r. r < k + 1) (cond b (row ++ k ∷ []) row)
   below_step true row a = All-push (λ r. r < k + 1) row k (All-weaker (λ r. r < k) (λ r. r < k + 1) (λ x y. omega arith) row a) (omega arith)
@@ -87,7 +87,7 @@ rows_step js n k rows rows' j l e long told h = record {
   rest = drop_more js k j l ∙ ap (λ z. z ∷ drop (k + 1) js) (sym e)
 
 pub rows_done : (js : List Instance) (n k : ℕ) (rows : List Row) → length js ≤ k → RowsTo js n k rows → rows ≡ map (readers_of js) (range_with_len 0 n)
-rows_done js n k rows l h = fill_by_all (readers_of js) rows n [] h.long (λ i b. let t = h.told i b in let d = drop_all k js l in sym (append-nil (row_at rows i)) ∙ rw d at t)
+rows_done js n k rows l h = fill_by_all (readers_of js) rows n [] h.long (λ i b. let t = h.noted i b in let d = drop_all k js l in sym (append-nil (row_at rows i)) ∙ rw d at t)
 
 rows_get : (rows : List Row) (i : ℕ) (v : Row) → i < length rows → v ≡ get_or rows i v → row_at rows i ≡ v
 rows_get [] i v l e = absurd (omega arith)

@@ -1,5 +1,5 @@
--- What two nets have in common that nothing tells apart, where each net has a class: all that is said of them, and drivers
--- that differ at most in which nets of their classes the pins are on.
+-- What two nets have in common that nothing tells apart, where each net has a class: all that is
+-- said of them, and drivers that differ at most in which nets of their classes the pins are on.
 use Rattle.std.specs.Prelude.{◌≡◌, ℕ, ◌==◌, Bool, if◌then◌else◌, List, [], ◌∷◌, slice_get, slice_index_or, Option, Some, None, ⊤}
 use Rattle.std.specs.List.{All, AllZip}
 use Rattle.vector_names.specs.declared.bits.Target.{Target}
@@ -28,8 +28,8 @@ pub record PinsAlike (classes : List ℕ) (p q : Pin) : Type 0 where
   pub complement : p.inverted ≡ q.inverted
   pub mark : p.hold ≡ q.hold
 
--- Two instances make the same of waves that are equal within the classes. They have equally many pins, and those at the
--- same place are alike.
+-- Two instances make the same of waves that are equal within the classes. They have equally many
+-- pins, and those at the same place are alike.
 pub record InstancesAlike (classes : List ℕ) (a b : Instance) : Type 0 where
   pub kind : a.kind ≡ b.kind
   pub delay : a.delay ≡ b.delay
@@ -61,12 +61,14 @@ value_in values i = value_after None values i
 
 -- each case gives both the same value, or none
 abbrev pub CasesAlike : List (List CaseValue) → ℕ → ℕ → Type 0
-CasesAlike cases i j = All (λ (values : List CaseValue). value_in values i ≡ value_in values j) cases
+CasesAlike cases i j =
+    All (λ (values : List CaseValue). value_in values i ≡ value_in values j) cases
 
 -- ---- nets
 
 -- Net m has number i, and n has j.
-pub record NetsAlike (c : Circuit) (cases : List (List CaseValue)) (classes : List ℕ) (i j : ℕ) (m n : Net) : Type 0 where
+pub record NetsAlike (c : Circuit) (cases : List (List CaseValue)) (classes : List ℕ) (i j : ℕ)
+    (m n : Net) : Type 0 where
   pub spec : m.spec ≡ n.spec
   pub wire : m.wire ≡ n.wire
   pub values : CasesAlike cases i j

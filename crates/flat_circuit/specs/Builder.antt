@@ -28,7 +28,8 @@ pub record Asserted : Type 0 where
 
 -- assertions as pairs of a text and what it asserts
 abbrev pub asserted_entries : List (Vec ℕ × AssertSpec) → List Asserted
-asserted_entries entries = map (λ (p : Vec ℕ × AssertSpec). record { text = p.0.items; spec = p.1 }) entries
+asserted_entries entries =
+    map (λ (p : Vec ℕ × AssertSpec). record { text = p.0.items; spec = p.1 }) entries
 
 -- names in the order of their numbers, and wire bounds in the same order
 pub record Nets : Type 0 where
@@ -39,14 +40,18 @@ abbrev pub name_of_key : NetName → Name
 name_of_key k = record { text = k.text; bit = k.bit }
 
 abbrev pub net_entries : List (NetName × Bounds) → Nets
-net_entries entries = record { names = map (λ (p : NetName × Bounds). name_of_key p.0) entries; wires = map (λ (p : NetName × Bounds). p.1) entries }
+net_entries entries =
+    record {
+      names = map (λ (p : NetName × Bounds). name_of_key p.0) entries;
+      wires = map (λ (p : NetName × Bounds). p.1) entries;
+    }
 
 pub record IsNets (t : Nets) : Type 0 where
   pub distinct : AreDistinct t.names
   pub bounded : length t.wires ≡ length t.names
 
--- The nets' names and wire bounds stand in the order of their numbers, the assertions in the order in which they were
--- given, and the instances in theirs.
+-- The nets' names and wire bounds stand in the order of their numbers, the assertions in the order
+-- in which they were given, and the instances in theirs.
 pub record Built : Type 0 where
   pub header : Header
   pub names : List Name
@@ -55,7 +60,8 @@ pub record Built : Type 0 where
   pub instances : List Instance
 
 abbrev pub built : Header → Nets → List Asserted → List Instance → Built
-built h t given js = record { header = h; names = t.names; wires = t.wires; asserted = given; instances = js }
+built h t given js =
+    record { header = h; names = t.names; wires = t.wires; asserted = given; instances = js }
 
 -- the builder as it begins
 abbrev pub empty : Header → Built
@@ -88,7 +94,8 @@ has_text given text = list_any (λ (a : Asserted). bytes_eq text a.text) given
 -- the assertions with this one, if it is one, and the first of its text
 abbrev pub with_asserted : List Asserted → List ℕ → AssertSpec → List Asserted
 with_asserted given text spec =
-    if is_asserted spec && not (has_text given text) then given ++ record { text = text; spec = spec } ∷ [] else given
+    if is_asserted spec && not (has_text given text)
+    then given ++ record { text = text; spec = spec } ∷ [] else given
 
 abbrev pub same_name : Name → Name → Bool
 same_name a b = bytes_eq a.text b.text && a.bit == b.bit
@@ -98,7 +105,9 @@ has_name names name = list_any (same_name name) names
 
 -- A name gets its number: a new one the next, and the header's wire bounds.
 abbrev pub after_number : Built → Name → Built
-after_number b name = if has_name b.names name then b else record b { names = b.names ++ name ∷ []; wires = b.wires ++ b.header.wire ∷ [] }
+after_number b name =
+    if has_name b.names name then b
+    else record b { names = b.names ++ name ∷ []; wires = b.wires ++ b.header.wire ∷ [] }
 
 abbrev pub after_assertion : Built → List ℕ → AssertSpec → Built
 after_assertion b text spec = record b { asserted = with_asserted b.asserted text spec }
@@ -116,7 +125,9 @@ pub record GivesNet (old new : Built) (name : Name) (spec : AssertSpec) (i : ℕ
 -- A clash comes first; then a net is one too many where it is new.
 abbrev pub IsNetFault : Built → Name → AssertSpec → RefusalKind → Type 0
 IsNetFault b name spec AssertionClash = Clashes b.asserted name.text spec
-IsNetFault b name spec TooMany = (¬ (Clashes b.asserted name.text spec)) × (has_name b.names name ≡ false) × (length b.names ≡ most_bits)
+IsNetFault b name spec TooMany =
+    (¬ (Clashes b.asserted name.text spec)) × (has_name b.names name ≡ false)
+    × (length b.names ≡ most_bits)
 IsNetFault b name spec fault = ⊥
 
 abbrev pub IsNetRefusal : Built → Name → AssertSpec → Place → Stop → Type 0
@@ -129,7 +140,9 @@ pub record GivesNumber (old new : Built) (name : Name) (i : ℕ) : Type 0 where
 
 abbrev pub IsNumberRefusal : Built → Name → Place → Stop → Type 0
 IsNumberRefusal b name at NoMemory = Unit {0}
-IsNumberRefusal b name at (Refused r) = (r ≡ record { kind = TooMany; place = at }) × (has_name b.names name ≡ false) × (length b.names ≡ most_bits)
+IsNumberRefusal b name at (Refused r) =
+    (r ≡ record { kind = TooMany; place = at }) × (has_name b.names name ≡ false)
+    × (length b.names ≡ most_bits)
 
 -- the wire bounds of a net are set, and those that are set last count
 abbrev pub after_wire : Built → ℕ → Bounds → Built
@@ -150,7 +163,8 @@ pub record GivesInstance (old new : Built) (j : Instance) (k : ℕ) : Type 0 whe
 
 abbrev pub IsInstanceRefusal : Built → Instance → Stop → Type 0
 IsInstanceRefusal b j NoMemory = Unit {0}
-IsInstanceRefusal b j (Refused r) = (r ≡ record { kind = TooMany; place = j.place }) × (is_one_too_many b.instances j ≡ true)
+IsInstanceRefusal b j (Refused r) =
+    (r ≡ record { kind = TooMany; place = j.place }) × (is_one_too_many b.instances j ≡ true)
 
 -- ---- the end
 
@@ -158,13 +172,15 @@ IsInstanceRefusal b j (Refused r) = (r ≡ record { kind = TooMany; place = j.pl
 abbrev pub bounds_at : List Bounds → ℕ → Bounds
 bounds_at wires i = slice_index_or wires i (record { min = 0; max = 0 })
 
--- The circuit that a builder gives, where no output is taken and no instance is reached from a loop without delay: its
--- nets with the bounds that were set last and the assertion of their text, and its instances as they were given.
+-- The circuit that a builder gives, where no output is taken and no instance is reached from a loop
+-- without delay: its nets with the bounds that were set last and the assertion of their text, and
+-- its instances as they were given.
 pub record Stands (b : Built) (c : Circuit) : Type 0 where
   pub head : c.header ≡ b.header
   pub names_are : net_names c.nets ≡ b.names
   pub wires_are : map (λ (n : Net). n.wire) c.nets ≡ b.wires
-  pub specs_are : map (λ (n : Net). n.spec) c.nets ≡ map (λ (n : Name). spec_of b.asserted n.text) b.names
+  pub specs_are : map (λ (n : Net). n.spec) c.nets
+      ≡ map (λ (n : Name). spec_of b.asserted n.text) b.names
   pub instances_are : c.instances ≡ b.instances
   pub none_taken : HoldsOfNone (IsTaken b.instances) b.instances
   pub none_looped : HoldsOfNone (IsLooped (bounds_at b.wires) b.instances) b.instances
@@ -181,11 +197,13 @@ pub record IsFirst (P : ℕ → Type 0) (js : List Instance) (at : Place) : Type
   pub first : (m : ℕ) → m < k → P m → ⊥
   pub stands : StandsAt (slice_get js k) at
 
--- Two drivers come first: at the first instance whose output is a constant or driven already. Then a loop, at the first
--- instance that can be reached from one.
+-- Two drivers come first: at the first instance whose output is a constant or driven already. Then
+-- a loop, at the first instance that can be reached from one.
 abbrev pub IsRuleBroken : Built → Place → RefusalKind → Type 0
 IsRuleBroken b at TwoDrivers = IsFirst (IsTaken b.instances) b.instances at
-IsRuleBroken b at ZeroLoop = HoldsOfNone (IsTaken b.instances) b.instances × IsFirst (IsLooped (bounds_at b.wires) b.instances) b.instances at
+IsRuleBroken b at ZeroLoop =
+    HoldsOfNone (IsTaken b.instances) b.instances
+    × IsFirst (IsLooped (bounds_at b.wires) b.instances) b.instances at
 IsRuleBroken b at rule = ⊥
 
 abbrev pub IsRefusal : Built → Stop → Type 0

@@ -9,8 +9,8 @@ use Rattle.flat_circuit.specs.Name.{Name, AreDistinct, IsNameOrder}
 use Rattle.flat_circuit.specs.Instances.{InstanceFits, AreFew, AreDrivers, most_bits}
 use Rattle.flat_circuit.specs.Loop.{IsLooped, HoldsOfNone}
 
--- Nets and instances go by their numbers, which count from 0. The order is that of the nets' names: their numbers,
--- sorted by name and bit.
+-- Nets and instances go by their numbers, which count from 0. The order is that of the nets' names:
+-- their numbers, sorted by name and bit.
 pub record Circuit : Type 0 where
   pub header : Header
   pub nets : List Net
@@ -47,8 +47,8 @@ instance_in c (Some k) = slice_get c.instances k
 abbrev pub driver : Circuit → ℕ → Option Instance
 driver c i = instance_in c (driver_at c.nets i)
 
--- What holds of each circuit: no name stands twice, assertions fit, and so do the instances; each net has at most one
--- driver, and no instance is reached from a loop without delay.
+-- What holds of each circuit: no name stands twice, assertions fit, and so do the instances; each
+-- net has at most one driver, and no instance is reached from a loop without delay.
 pub record IsCircuit (c : Circuit) : Type 0 where
   pub few_nets : length c.nets ≤ most_bits
   pub few : AreFew c.instances

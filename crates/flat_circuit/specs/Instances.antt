@@ -102,7 +102,8 @@ is_on i (Constant b) = false
 -- whether a pin listens on the net, of pins whose places count from one on
 abbrev pub any_listens : Kind → ℕ → ℕ → List Pin → Bool
 any_listens k i place [] = false
-any_listens k i place (p ∷ ps) = (listens k place && is_on i p.target) || any_listens k i (place + 1) ps
+any_listens k i place (p ∷ ps) =
+    (listens k place && is_on i p.target) || any_listens k i (place + 1) ps
 
 -- it has an output, and a pin that listens on the net
 abbrev pub reads : ℕ → Instance → Bool
@@ -111,7 +112,8 @@ reads i j = is_some j.out && any_listens j.kind i 0 j.pins
 -- the numbers, from one on, of those that pass
 abbrev pub numbers_from : {X : Type 0} → (X → Bool) → ℕ → List X → List ℕ
 numbers_from test k [] = []
-numbers_from test k (x ∷ xs) = if test x then k ∷ numbers_from test (k + 1) xs else numbers_from test (k + 1) xs
+numbers_from test k (x ∷ xs) =
+    if test x then k ∷ numbers_from test (k + 1) xs else numbers_from test (k + 1) xs
 
 -- the instances that read a net, each once, ascending
 abbrev pub readers_of : List Instance → ℕ → List ℕ
@@ -128,4 +130,5 @@ pub record AreDrivers (js : List Instance) (driver_of : ℕ → Option ℕ) : Ty
 -- Instance k takes a constant, or a net that an earlier one drives.
 pub data IsTaken (js : List Instance) (k : ℕ) : Type 0 where
   Is_constant : {b : Bool} → out_at js k ≡ Some (Constant b) → IsTaken js k
-  Is_driven : {i d : ℕ} → d < k → out_at js d ≡ Some (OnNet i) → out_at js k ≡ Some (OnNet i) → IsTaken js k
+  Is_driven : {i d : ℕ} → d < k → out_at js d ≡ Some (OnNet i) → out_at js k ≡ Some (OnNet i) →
+      IsTaken js k

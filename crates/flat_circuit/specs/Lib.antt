@@ -4,7 +4,7 @@ pub mod Table
 pub mod Node
 pub mod Sorted
 pub mod Assertion
-pub mod Few
+pub mod ShortList
 pub mod Text
 pub mod Limits
 pub mod Kind

@@ -7,8 +7,8 @@ use Rattle.flat_circuit.specs.declared.instance.Pin.{Pin}
 use Rattle.flat_circuit.specs.declared.instance.Instance.{Instance}
 use Rattle.flat_circuit.specs.Instances.{out_at, pins_at, least_delay_at}
 
--- Instance d passes on to k at once: its least delay, with two delays the least of both, is 0 and so
--- is that of its net's wires, and any pin of k reads that net.
+-- Instance d passes on to k at once: its least delay, with two delays the least of both, is 0 and
+-- so is that of its net's wires, and any pin of k reads that net.
 pub record PassesOn (wire_of : ℕ → Bounds) (js : List Instance) (d k : ℕ) : Type 0 where
   pub net : ℕ
   pub drives : out_at js d ≡ Some (OnNet net)

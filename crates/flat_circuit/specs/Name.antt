@@ -24,7 +24,8 @@ pub record IsNumber (names : List Name) (name : Name) (i : ℕ) : Type 0 where
 
 -- no name twice
 abbrev pub AreDistinct : List Name → Type 0
-AreDistinct names = (i j : ℕ) → i < length names → j < length names → name_at names i ≡ name_at names j → i ≡ j
+AreDistinct names =
+    (i j : ℕ) → i < length names → j < length names → name_at names i ≡ name_at names j → i ≡ j
 
 -- by the texts as bytes, and then by the bits as numbers
 abbrev pub name_cmp : Name → Name → Ordering

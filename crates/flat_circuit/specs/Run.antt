@@ -16,8 +16,8 @@ use Rattle.flat_circuit.specs.Circuit.{Circuit}
 use Rattle.element_kinds.specs.Equation.{Equation, IsAsked}
 use Rattle.flat_circuit.specs.Split.{two_delays, SplitEquation, IsSplitAsked}
 
--- What a run chooses at an instance: its delay, or where it has two its rise and its fall delay, and
--- the delay of the wire to each of its pins.
+-- What a run chooses at an instance: its delay, or where it has two its rise and its fall delay,
+-- and the delay of the wire to each of its pins.
 pub record Choice : Type 0 where
   pub delay : ℕ
   pub rise : ℕ
@@ -63,8 +63,8 @@ DelayFitsForm (Register forced) d n = Within d n
 DelayFitsForm (Enabled forced) d n = Within d n
 DelayFitsForm (Checker check) d n = ⊤
 
--- An instance has one delay for the whole of a run. A change function has none, since each of its changes may come
--- after another delay, and a checker has none.
+-- An instance has one delay for the whole of a run. A change function has none, since each of its
+-- changes may come after another delay, and a checker has none.
 abbrev pub DelayFits : Kind → Bounds → ℕ → Type 0
 DelayFits kind d n = DelayFitsForm (form_of kind) d n
 
@@ -110,9 +110,11 @@ pub record IsRunAt (c : Circuit) (run : Run) (i : Instance) (choice : Choice) : 
   pub obeys : Obeys run.ticks i.kind i.delay (two_delays i.kind i.split) choice
       (pin_signals run i.pins choice.wires) (out_signal run i.out i.out_inverted)
 
--- Each net has a bit for each tick, and each instance a choice within its bounds. Nothing is said of the start.
+-- Each net has a bit for each tick, and each instance a choice within its bounds. Nothing is said
+-- of the start.
 pub record IsRun (c : Circuit) (run : Run) : Type 0 where
   pub nets : length run.bits ≡ length c.nets
   pub long : All (λ bits. length bits ≡ run.ticks) run.bits
   pub instances : length run.choices ≡ length c.instances
-  pub at : (k : ℕ) (i : Instance) (choice : Choice) → slice_get c.instances k ≡ Some i → slice_get run.choices k ≡ Some choice → IsRunAt c run i choice
+  pub at : (k : ℕ) (i : Instance) (choice : Choice) → slice_get c.instances k ≡ Some i →
+      slice_get run.choices k ≡ Some choice → IsRunAt c run i choice

@@ -78,14 +78,16 @@ pub record Waits (nodes : List Node) (marks : List Mark) (f : Frame) (child : �
   pub some : 0 < f.at
   pub at_in : f.at ≤ length (feeders_of nodes f.node)
   pub is : slice_index_or (feeders_of nodes f.node) (f.at - 1) 0 ≡ child
-  pub passed : (t : ℕ) → t < f.at - 1 → mark_at marks (slice_index_or (feeders_of nodes f.node) t 0) ≡ Clear
+  pub passed : (t : ℕ) → t < f.at - 1 →
+      mark_at marks (slice_index_or (feeders_of nodes f.node) t 0) ≡ Clear
 
 abbrev pub Chain : List Node → List Mark → List Frame → ℕ → Type 0
 Chain nodes marks [] child = Unit {0}
 Chain nodes marks (f ∷ fs) child = Waits nodes marks f child × Chain nodes marks fs f.node
 
 -- what the search knows at a node, `at` of whose feeders it has passed, with these frames below it
-pub record Searching (nodes : List Node) (start marks : List Mark) (fs : List Frame) (node at : ℕ) : Type 0 where
+pub record Searching (nodes : List Node) (start marks : List Mark) (fs : List Frame)
+    (node at : ℕ) : Type 0 where
   pub marks_are : AreMarks nodes marks
   pub node_in : node < length nodes
   pub passed : (t : ℕ) → t < at → mark_at marks (slice_index_or (feeders_of nodes node) t 0) ≡ Clear

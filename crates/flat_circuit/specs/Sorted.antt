@@ -1,4 +1,5 @@
--- An order of nodes in which each follows those that feed it, and what the search for one knows on its way.
+-- An order of nodes in which each follows those that feed it, and what the search for one knows on
+-- its way.
 use Rattle.std.specs.Prelude.{◌≡◌, ◌≢◌, ◌++◌, ℕ, ◌+◌, ◌-◌, ◌<◌, ◌≤◌, List, [], ◌∷◌, length, slice_index_or, ◌⊎◌}
 use Rattle.std.specs.List.{All}
 use Rattle.flat_circuit.specs.declared.node.Node.{Node}
@@ -19,7 +20,8 @@ pub record StandsBefore (order : List ℕ) (i b : ℕ) : Type 0 where
 pub record IsPlaced (feeders : ℕ → List ℕ) (order : List ℕ) : Type 0 where
   pub once : (a b : ℕ) → a < length order → b < length order →
       slice_index_or order a 0 ≡ slice_index_or order b 0 → a ≡ b
-  pub fed : (b i : ℕ) → b < length order → Feeds feeders i (slice_index_or order b 0) → StandsBefore order i b
+  pub fed : (b i : ℕ) → b < length order → Feeds feeders i (slice_index_or order b 0) →
+      StandsBefore order i b
 
 -- such an order of all nodes below n
 pub record IsSorted (feeders : ℕ → List ℕ) (n : ℕ) (order : List ℕ) : Type 0 where

@@ -43,7 +43,8 @@ split_bit z rise fall t =
     else list_any z (ticks (t - fall) (t - rise))
 
 abbrev pub SplitEquation : Kind → ℕ → ℕ → List Signal → Signal → ℕ → Type 0
-SplitEquation kind rise fall signals output t = output t ≡ split_bit (gate_signal kind signals) rise fall t
+SplitEquation kind rise fall signals output t =
+    output t ≡ split_bit (gate_signal kind signals) rise fall t
 
 -- How many ticks before t each pin's net is looked at, as in `named_before`. All of those ticks are
 -- named, whatever the bits are, of which the earliest counts.
@@ -58,18 +59,24 @@ IsSplitAsked rise fall wires t = All (λ back. back ≤ t) (split_named_before r
 
 -- Two equal delays are one delay.
 pub record EqualDelaysAreOne : Type 0 where
-  pub equation : (kind : Kind) (bounds : Bounds) (delay : ℕ) (signals : List Signal) (output : Signal) (t : ℕ) → may_split kind ≡ true →
+  pub equation : (kind : Kind) (bounds : Bounds) (delay : ℕ) (signals : List Signal)
+      (output : Signal) (t : ℕ) → may_split kind ≡ true →
       SplitEquation kind delay delay signals output t ↔ Equation kind bounds delay signals output t
-  pub asked : (kind : Kind) (bounds : Bounds) (delay : ℕ) (wires : List ℕ) (t : ℕ) → may_split kind ≡ true →
+  pub asked : (kind : Kind) (bounds : Bounds) (delay : ℕ) (wires : List ℕ) (t : ℕ) →
+      may_split kind ≡ true →
       IsSplitAsked delay delay wires t ↔ IsAsked kind bounds delay wires t
 
 -- Each tick between the two delays counts, both ends too.
 pub record EveryTickCounts : Type 0 where
   pub slow_rise : (z : Signal) (rise fall t : ℕ) → fall ≤ rise → rise ≤ t →
-      split_bit z rise fall t ≡ true ↔ ((u : ℕ) → IsInReach (record { min = fall; max = rise }) t u → z u ≡ true)
+      split_bit z rise fall t ≡ true
+      ↔ ((u : ℕ) → IsInReach (record { min = fall; max = rise }) t u → z u ≡ true)
   pub slow_fall : (z : Signal) (rise fall t : ℕ) → rise < fall → fall ≤ t →
-      split_bit z rise fall t ≡ true ↔ ((u : ℕ) × IsInReach (record { min = rise; max = fall }) t u × (z u ≡ true))
+      split_bit z rise fall t ≡ true
+      ↔ ((u : ℕ) × IsInReach (record { min = rise; max = fall }) t u × (z u ≡ true))
 
 -- the complement falls where this rises
 abbrev pub RiseMirrorsFall : Type 0
-RiseMirrorsFall = (z : Signal) (rise fall t : ℕ) → split_bit (λ u. not (z u)) fall rise t ≡ not (split_bit z rise fall t)
+RiseMirrorsFall =
+    (z : Signal) (rise fall t : ℕ) →
+    split_bit (λ u. not (z u)) fall rise t ≡ not (split_bit z rise fall t)

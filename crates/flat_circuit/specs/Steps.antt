@@ -36,7 +36,8 @@ pub record DrivenTo (js : List Instance) (n k : ℕ) (ds : List (Option ℕ)) : 
 abbrev pub Took : List (Option ℕ) → List (Option ℕ) → ℕ → Option Target → Bool → Type 0
 Took ds ds' k None r = (r ≡ true) × (ds' ≡ ds)
 Took ds ds' k (Some (Constant b)) r = r ≡ false
-Took ds ds' k (Some (OnNet i)) r = MatchOption (entry ds i) ((r ≡ true) × (ds' ≡ slice_set ds i (Some k))) (λ _. r ≡ false)
+Took ds ds' k (Some (OnNet i)) r =
+    MatchOption (entry ds i) ((r ≡ true) × (ds' ≡ slice_set ds i (Some k))) (λ _. r ≡ false)
 
 -- where the drivers stop
 abbrev pub StopsAtTaken : List Instance → Stop → Type 0
@@ -52,11 +53,13 @@ if_at_once js (Some d) = if least_delay_at js d == 0 then Some d else None
 
 abbrev pub quick_driver : List Bounds → List (Option ℕ) → List Instance → Target → Option ℕ
 quick_driver ws ds js (Constant b) = None
-quick_driver ws ds js (OnNet i) = if (bounds_at ws i).min == 0 then if_at_once js (entry ds i) else None
+quick_driver ws ds js (OnNet i) =
+    if (bounds_at ws i).min == 0 then if_at_once js (entry ds i) else None
 
 abbrev pub quick_list : List Bounds → List (Option ℕ) → List Instance → List Pin → List ℕ
 quick_list ws ds js [] = []
-quick_list ws ds js (p ∷ ps) = option_to_list (quick_driver ws ds js p.target) ++ quick_list ws ds js ps
+quick_list ws ds js (p ∷ ps) =
+    option_to_list (quick_driver ws ds js p.target) ++ quick_list ws ds js ps
 
 -- those that pass on to instance k at once
 abbrev pub quick_feeders : List Bounds → List (Option ℕ) → List Instance → ℕ → List ℕ
@@ -68,7 +71,8 @@ node_feeders n = n.feeders.items
 -- where the search for loops stops
 abbrev pub StopsAtLoop : List Bounds → List Instance → Stop → Type 0
 StopsAtLoop ws js NoMemory = Unit {0}
-StopsAtLoop ws js (Refused r) = (r.kind ≡ ZeroLoop) × IsFirst (IsLooped (bounds_at ws) js) js r.place
+StopsAtLoop ws js (Refused r) =
+    (r.kind ≡ ZeroLoop) × IsFirst (IsLooped (bounds_at ws) js) js r.place
 
 -- ---- rows of readers
 
@@ -90,19 +94,22 @@ abbrev pub row_noted : Row → ℕ → Row
 row_noted row k = if last_is row k then row else row ++ k ∷ []
 
 -- what the pins of instance k, from a place on, do to the row of net i
-abbrev pub row_told : Kind → ℕ → ℕ → ℕ → List Pin → Row → Row
-row_told kind i k place [] row = row
-row_told kind i k place (p ∷ ps) row = row_told kind i k (place + 1) ps (if listens kind place && is_on i p.target then row_noted row k else row)
+abbrev pub pins_noted : Kind → ℕ → ℕ → ℕ → List Pin → Row → Row
+pins_noted kind i k place [] row = row
+pins_noted kind i k place (p ∷ ps) row =
+    pins_noted kind i k (place + 1) ps
+    (if listens kind place && is_on i p.target then row_noted row k else row)
 
 -- the same, where the instance has an output
-abbrev pub told_by : Instance → ℕ → ℕ → Row → Row
-told_by j i k row = if is_some j.out then row_told j.kind i k 0 j.pins row else row
+abbrev pub noted_by : Instance → ℕ → ℕ → Row → Row
+noted_by j i k row = if is_some j.out then pins_noted j.kind i k 0 j.pins row else row
 
 -- rows of the first k instances
 pub record RowsTo (js : List Instance) (n k : ℕ) (rows : List Row) : Type 0 where
   pub long : length rows ≡ n
   pub below : (i : ℕ) → All (λ r. r < k) (row_at rows i)
-  pub told : (i : ℕ) → i < n → row_at rows i ++ numbers_from (reads i) k (drop k js) ≡ readers_of js i
+  pub noted : (i : ℕ) → i < n → row_at rows i ++ numbers_from (reads i) k (drop k js)
+      ≡ readers_of js i
 
 -- ---- the nets
 
@@ -110,14 +117,16 @@ abbrev pub specs_of : List Asserted → List Name → List AssertSpec
 specs_of given names = map (λ (n : Name). spec_of given n.text) names
 
 -- nets of these names, bounds, assertions and drivers
-pub record AreNets (names : List Name) (ws : List Bounds) (specs : List AssertSpec) (ds : List (Option ℕ)) (nets : List Net) : Type 0 where
+pub record AreNets (names : List Name) (ws : List Bounds) (specs : List AssertSpec)
+    (ds : List (Option ℕ)) (nets : List Net) : Type 0 where
   pub names_are : net_names nets ≡ names
   pub wires_are : map (λ (n : Net). n.wire) nets ≡ ws
   pub specs_are : map (λ (n : Net). n.spec) nets ≡ specs
   pub drivers_are : map (λ (n : Net). n.driver) nets ≡ ds
 
 -- the net of one number
-pub record IsNet (names : List Name) (ws : List Bounds) (given : List Asserted) (driver : Option ℕ) (i : ℕ) (n : Net) : Type 0 where
+pub record IsNet (names : List Name) (ws : List Bounds) (given : List Asserted) (driver : Option ℕ)
+    (i : ℕ) (n : Net) : Type 0 where
   pub name_is : net_name n ≡ name_at names i
   pub wire_is : n.wire ≡ bounds_at ws i
   pub spec_is : n.spec ≡ spec_of given n.name
@@ -125,7 +134,8 @@ pub record IsNet (names : List Name) (ws : List Bounds) (given : List Asserted) 
 
 -- ---- both rules, and the nets where they hold
 
-pub record AreRuled (names : List Name) (ws : List Bounds) (specs : List AssertSpec) (js : List Instance) (nets : List Net) : Type 0 where
+pub record AreRuled (names : List Name) (ws : List Bounds) (specs : List AssertSpec)
+    (js : List Instance) (nets : List Net) : Type 0 where
   pub drivers : List (Option ℕ)
   pub driven : DrivenTo js (length names) (length js) drivers
   pub none_looped : HoldsOfNone (IsLooped (bounds_at ws) js) js
@@ -133,4 +143,5 @@ pub record AreRuled (names : List Name) (ws : List Bounds) (specs : List AssertS
 
 -- at the first output that is taken, or where none is at the first instance that a loop reaches
 abbrev pub StopsAtRule : List Bounds → List Instance → Stop → Type 0
-StopsAtRule ws js stop = StopsAtTaken js stop ⊎ (HoldsOfNone (IsTaken js) js × StopsAtLoop ws js stop)
+StopsAtRule ws js stop =
+    StopsAtTaken js stop ⊎ (HoldsOfNone (IsTaken js) js × StopsAtLoop ws js stop)

@@ -7,8 +7,8 @@ use scald_base::{AssertSpec, NoMemory};
 use std::alloc::Global;
 use std::marker::Model;
 
-/// What the name of a net asserts, which contracts see as just that. Most names assert nothing, so an
-/// assertion has memory of its own.
+/// What the name of a net asserts, which contracts see as just that. Most names assert nothing, so
+/// an assertion has memory of its own.
 #[derive(Drop, Debug)]
 pub struct Assertion {
     spec: Option<Box<AssertSpec>>,

@@ -40,7 +40,8 @@ impl Assertions {
 
     /// Whether it differs from what was asserted of the text before.
     pub(crate) fn clashes(&self, text: &[u8], spec: &AssertSpec) -> bool
-        ensures { MatchBool result (Clashes self.now text.now spec.now) (¬ (Clashes self.now text.now spec.now)) }
+        ensures { MatchBool result (Clashes self.now text.now spec.now)
+            (¬ (Clashes self.now text.now spec.now)) }
     {
         if !is_asserted(spec) {
             return false;

@@ -20,8 +20,8 @@ const MOST_BITS: usize = 65_536;
 /// The most pins of all instances.
 const MOST_PINS: usize = 1_048_576;
 
-/// Builds a circuit. Nets get their numbers in the order in which they are first asked for, from 0, and
-/// a number stays valid. Instances get theirs in the order in which they are added.
+/// Builds a circuit. Nets get their numbers in the order in which they are first asked for, from 0,
+/// and a number stays valid. Instances get theirs in the order in which they are added.
 #[derive(Drop)]
 pub struct Builder {
     pub(crate) alloc: Global,
@@ -74,11 +74,12 @@ impl Builder {
         let _ = &self.alloc;
     }
 
-    /// The number of the net with this path, base and bit, which a new one gets now. A path is empty or
-    /// ends with a slash; a global has an empty path, and its base begins with a slash. The assertion is
-    /// one of all bits of this path and base. `AssertionClash` comes exactly where an assertion of them
-    /// that was given before differs, and else `TooMany` exactly where the net is new and 65,536 are
-    /// there. After a refusal, or where memory runs out, the builder is as before.
+    /// The number of the net with this path, base and bit, which a new one gets now. A path is
+    /// empty or ends with a slash; a global has an empty path, and its base begins with a slash.
+    /// The assertion is one of all bits of this path and base. `AssertionClash` comes exactly where
+    /// an assertion of them that was given before differs, and else `TooMany` exactly where the net
+    /// is new and 65,536 are there. After a refusal, or where memory runs out, the builder is as
+    /// before.
     pub fn net(
         &mut self,
         path: &[u8],
@@ -91,7 +92,8 @@ impl Builder {
         ensures given { let name : Name = record { text = path.now ++ base.now; bit = bit } in
             IfOk result (GivesNet self.old self.new name spec.now) }
         ensures refused { let name : Name = record { text = path.now ++ base.now; bit = bit } in
-            IfErr result (λ stop. (self.new ≡ self.old) × IsNetRefusal self.old name spec.now place stop) }
+            IfErr result (λ stop.
+            (self.new ≡ self.old) × IsNetRefusal self.old name spec.now place stop) }
     {
         let number = match self.next_found(path, base, bit, spec) {
             Some(number) => number,
@@ -135,7 +137,8 @@ impl Builder {
         ensures given { let name : Name = record { text = path.now ++ base.now; bit = bit } in
             IfOk result (GivesNet self.old self.new name spec.now) }
         ensures refused { let name : Name = record { text = path.now ++ base.now; bit = bit } in
-            IfErr result (λ stop. (self.new ≡ self.old) × IsNetRefusal self.old name spec.now place stop) }
+            IfErr result (λ stop.
+            (self.new ≡ self.old) × IsNetRefusal self.old name spec.now place stop) }
     {
         let name = NetName {
             text: Text::joined(self.alloc, path, base)?,
@@ -197,8 +200,8 @@ impl Builder {
         Ok(number as u32)
     }
 
-    /// Sets the bounds of a net's wires, which are the header's where none are set; those that are set
-    /// last count.
+    /// Sets the bounds of a net's wires, which are the header's where none are set; those that are
+    /// set last count.
     pub fn wire(&mut self, net: u32, wire: Delay)
         requires { net < length self.old.names }
         ensures { self.new ≡ after_wire self.old net wire }
@@ -206,14 +209,15 @@ impl Builder {
         self.nets.set_wire(net as usize, wire);
     }
 
-    /// Adds an instance, and says its number. `TooMany` comes exactly where it would be the 65,537th
-    /// with an output, or the 65,537th checker, or there would be more than 1,048,576 pins; its place is
-    /// the instance's. After a refusal, or where memory runs out, the builder is as before, and the
-    /// instance is dropped.
+    /// Adds an instance, and says its number. `TooMany` comes exactly where it would be the
+    /// 65,537th with an output, or the 65,537th checker, or there would be more than 1,048,576
+    /// pins; its place is the instance's. After a refusal, or where memory runs out, the builder is
+    /// as before, and the instance is dropped.
     pub fn instance(&mut self, instance: Instance) -> Result<u32, Stop>
         requires { InstanceFits self.old.header (length self.old.names) instance }
         ensures given { IfOk result (GivesInstance self.old self.new instance) }
-        ensures refused { IfErr result (λ stop. (self.new ≡ self.old) × IsInstanceRefusal self.old instance stop) }
+        ensures refused { IfErr result (λ stop.
+            (self.new ≡ self.old) × IsInstanceRefusal self.old instance stop) }
     {
         if !self.has_room(&instance) {
             return Err(Stop::refused(RefusalKind::TooMany, instance.place));

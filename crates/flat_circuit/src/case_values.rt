@@ -38,7 +38,8 @@ fn said(byte: u8) -> Option<bool>
 /// Says the value of a net, where a circuit may have this net.
 fn say(table: &mut Table, net: u32, one: bool)
     ensures { (i : ℕ) → i < most_bits →
-        said (slice_index_or table.new i 0) ≡ (if net == i then Some one else said (slice_index_or table.old i 0)) }
+        said (slice_index_or table.new i 0)
+        ≡ (if net == i then Some one else said (slice_index_or table.old i 0)) }
 {
     let place = net as usize;
     if place < NETS {
@@ -66,8 +67,10 @@ fn value_at(table: &Table, net: u32) -> Option<bool>
 /// Whether a net has the value of the net of its class's number.
 fn has_value_of_number(table: &Table, classes: &[u32], net: u32) -> bool
     ensures { MatchBool result
-        (said (slice_index_or table.now net 0) ≡ said (slice_index_or table.now (class_of classes.now net) 0))
-        (¬ (said (slice_index_or table.now net 0) ≡ said (slice_index_or table.now (class_of classes.now net) 0))) }
+        (said (slice_index_or table.now net 0)
+        ≡ said (slice_index_or table.now (class_of classes.now net) 0))
+        (¬ (said (slice_index_or table.now net 0)
+        ≡ said (slice_index_or table.now (class_of classes.now net) 0))) }
 {
     value_at(table, net) == value_at(table, class_of(classes, net))
 }

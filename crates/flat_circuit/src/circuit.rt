@@ -13,9 +13,9 @@ use scald_base::{Header, List};
 use std::cmp::Ordering;
 use std::marker::Model;
 
-/// A drawing's circuit. Nets and instances go by their numbers, which count from 0: nets in the order
-/// in which they were first named, instances in the order of expansion, checkers among them. `known`
-/// says what holds of each.
+/// A drawing's circuit. Nets and instances go by their numbers, which count from 0: nets in the
+/// order in which they were first named, instances in the order of expansion, checkers among them.
+/// `known` says what holds of each.
 #[derive(Drop)]
 pub struct Circuit {
     pub(crate) header: Header,
@@ -35,16 +35,27 @@ impl Model for Circuit {
 
     ghost Value = { Flat };
 
-    ghost view = { λ c. record { header = c.header; nets = c.nets; instances = c.instances; order = c.order.items } };
+    ghost view = { λ c.
+        record {
+          header = c.header;
+          nets = c.nets;
+          instances = c.instances;
+          order = c.order.items;
+        } };
 
     ghost invariant = { λ c.
-        IsCircuit (record { header = c.header; nets = c.nets; instances = c.instances; order = c.order.items })
+        IsCircuit (record {
+          header = c.header;
+          nets = c.nets;
+          instances = c.instances;
+          order = c.order.items;
+        })
         × (c.readers.items ≡ map (readers_of c.instances) (range_with_len 0 (length c.nets))) };
 }
 
 impl Circuit {
-    /// What holds of each circuit: the numbers in it exist, assertions fit the header, pins and limits
-    /// fit the kinds, each net has at most one driver, and there is no loop without delay.
+    /// What holds of each circuit: the numbers in it exist, assertions fit the header, pins and
+    /// limits fit the kinds, each net has at most one driver, and there is no loop without delay.
     pub fn known(&self)
         ensures { IsCircuit self.now }
     {
@@ -86,8 +97,8 @@ impl Circuit {
         self.instances.get(i as usize)
     }
 
-    /// The instance that drives the net of a number, or `None` exactly where nothing drives it or there
-    /// is no such net.
+    /// The instance that drives the net of a number, or `None` exactly where nothing drives it or
+    /// there is no such net.
     pub fn driver_of(&self, net: u32) -> Option<&Instance>
         ensures { option_copied result ≡ driver self.now net }
     {
@@ -95,8 +106,8 @@ impl Circuit {
         self.instance(driver)
     }
 
-    /// The instances with an output that have a listening pin on the net, each once, in ascending order,
-    /// and no checkers; or `None` exactly where there is no such net.
+    /// The instances with an output that have a listening pin on the net, each once, in ascending
+    /// order, and no checkers; or `None` exactly where there is no such net.
     pub fn readers(&self, net: u32) -> Option<&[u32]>
         ensures { MatchOption result (length self.now.nets ≤ net) (λ readers.
             (net < length self.now.nets) × (readers.now ≡ readers_of self.now.instances net)) }
@@ -125,8 +136,8 @@ impl Circuit {
         }
     }
 
-    /// The number of the net of this whole name, path and base, and this bit, or `None` exactly where
-    /// there is none.
+    /// The number of the net of this whole name, path and base, and this bit, or `None` exactly
+    /// where there is none.
     pub fn find(&self, name: &[u8], bit: u16) -> Option<u32>
         ensures { let wanted : Name = record { text = name.now; bit = bit } in MatchOption result
             ((i : ℕ) → ¬ (IsNumber (net_names self.now.nets) wanted i))
@@ -154,7 +165,8 @@ fn order_of_names(text: &[u8], bit: u16, other: &[u8], other_bit: u16) -> Orderi
 // Where the name of the net of a number stands against another; a number past the last is as one
 // without a name.
 pub(crate) fn order_of_number(nets: &[Net], number: u32, text: &[u8], bit: u16) -> Ordering
-    ensures { result ≡ name_cmp (name_at (net_names nets.now) number) (record { text = text.now; bit = bit }) }
+    ensures { result ≡ name_cmp (name_at (net_names nets.now) number)
+        (record { text = text.now; bit = bit }) }
 {
     match nets.get(number as usize) {
         Some(net) => order_of_names(net.name.as_slice(), net.bit, text, bit),

@@ -20,7 +20,8 @@ pub(crate) fn drivers(
     requires within { All (InstanceExists nets) instances.now }
     requires few { length instances.now < 2 ^ 32 }
     ensures { MatchResult result (λ drivers.
-        DrivenTo instances.now nets (length instances.now) drivers.items) (StopsAtTaken instances.now) }
+        DrivenTo instances.now nets (length instances.now) drivers.items)
+        (StopsAtTaken instances.now) }
 {
     let mut drivers = undriven(alloc, nets)?;
     for k in 0..instances.len() {

@@ -15,8 +15,8 @@ pub enum PointKind {
     Hold,
 }
 
-/// A fault. Instances and nets go by their numbers, slots are those of the period, and a value is the
-/// letter that the report prints.
+/// A fault. Instances and nets go by their numbers, slots are those of the period, and a value is
+/// the letter that the report prints.
 #[derive(Clone, Copy, PartialEq, Eq, Debug)]
 pub enum Fault {
     /// At an edge of a checker's clock, its input is not quiet in a slot.

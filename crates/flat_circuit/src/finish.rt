@@ -21,9 +21,9 @@ use scald_base::{AssertSpec, List, NoMemory, Stop};
 use std::alloc::Global;
 
 impl Builder {
-    /// The circuit. `TwoDrivers` comes exactly where an output is a constant, or a net that an earlier
-    /// one drives, at the first such instance; and else `ZeroLoop` exactly where instances pass on at
-    /// once round a loop, at the first instance that can be reached from one.
+    /// The circuit. `TwoDrivers` comes exactly where an output is a constant, or a net that an
+    /// earlier one drives, at the first such instance; and else `ZeroLoop` exactly where instances
+    /// pass on at once round a loop, at the first instance that can be reached from one.
     pub fn finish(self) -> Result<Circuit, Stop>
         ensures { MatchResult result (Stands self) (IsRefusal self) }
     {
@@ -51,7 +51,8 @@ impl Builder {
     }
 }
 
-/// The nets with their drivers, where the rules hold. The table of names goes before the readers are listed.
+/// The nets with their drivers, where the rules hold. The table of names goes before the readers
+/// are listed.
 fn checked_nets(
     alloc: Global,
     table: NetTable,
@@ -70,7 +71,8 @@ fn checked_nets(
     Ok(nets)
 }
 
-/// The nets with what the table says of them, what is asserted of them and what drives them. Their names are moved.
+/// The nets with what the table says of them, what is asserted of them and what drives them. Their
+/// names are moved.
 fn nets(
     alloc: Global,
     table: NetTable,

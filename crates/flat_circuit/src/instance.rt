@@ -1,7 +1,7 @@
 //! The bits of elements and checkers.
 
-use crate::few::Few;
 use crate::limits::Limits;
+use crate::short_list::ShortList;
 use crate::split::Split;
 use crate::text::Text;
 use element_kinds::Kind;
@@ -17,13 +17,14 @@ pub struct Pin {
 }
 
 /// The pins of an instance, in the order of its kind. Most have one or two.
-pub type Pins = Few<Pin>;
+pub type Pins = ShortList<Pin>;
 
 /// One bit of an element or of a checker. The wide fields come first, so that no room is left
 /// between.
 #[derive(Drop, PartialEq, Eq, Debug)]
 pub struct Instance {
-    /// The labels of the scopes from the drawing down, each with a slash after it, and its own label.
+    /// The labels of the scopes from the drawing down, each with a slash after it, and its own
+    /// label.
     pub path: Text,
     pub pins: Pins,
     /// What its output drives. A checker has no output.

@@ -1,5 +1,5 @@
-//! Numbers of what nets have in common: nets of different keys are different, and different nets hardly
-//! ever have one key.
+//! Numbers of what nets have in common: nets of different keys are different, and different nets
+//! hardly ever have one key.
 
 use crate::{Circuit, Instance, Pin, Split, Target};
 use scald_base::{AssertSpec, ClockSpec, Delay, Span};
@@ -26,8 +26,8 @@ impl Key {
     }
 }
 
-/// The key of all that tells a net apart but the nets that its driver's pins are on, and the values that
-/// cases give it.
+/// The key of all that tells a net apart but the nets that its driver's pins are on, and the values
+/// that cases give it.
 pub fn key_of_net(c: &Circuit, net: u32) -> Key {
     match c.net(net) {
         Some(named) => {

@@ -17,7 +17,8 @@ pub fn unnamed_bits_are_free()
     ensures { UnnamedBitsAreFree }
 {}
 
-/// A run of a circuit is one of its instances but the last in which the last one obeys its equation.
+/// A run of a circuit is one of its instances but the last in which the last one obeys its
+/// equation.
 pub fn runs_go_by_instances()
     ensures { RunsGoByInstances }
 {}

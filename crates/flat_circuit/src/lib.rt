@@ -2,8 +2,8 @@
 //!
 //! The layer above makes one by a `Builder`, which numbers the nets and takes instances, and whose
 //! `finish` refuses two drivers of a net and loops without delay. The layers that evaluate read a
-//! `Circuit` by its methods. `specs/Circuit` says what holds of each circuit, `specs/Builder` what a
-//! builder makes of each call, `specs/Run` what a run of a circuit is, by the equations of
+//! `Circuit` by its methods. `specs/Circuit` says what holds of each circuit, `specs/Builder` what
+//! a builder makes of each call, `specs/Run` what a run of a circuit is, by the equations of
 //! `element_kinds`, and `specs/Split` what a gate with two delays does in it.
 //!
 //! `classes` numbers the nets so that indistinguishable ones, as most bits of a bus are, have one
@@ -17,10 +17,10 @@ mod assertion;
 mod assertions;
 mod case;
 mod fault;
-mod few;
 mod instance;
 mod limits;
 mod net;
+mod short_list;
 mod split;
 mod text;
 
@@ -60,7 +60,6 @@ pub use circuit::Circuit;
 pub use class_map::ClassMap;
 pub use element_kinds::Kind;
 pub use fault::{Fault, Faults, PointKind, append_faults};
-pub use few::Few;
 pub use instance::{Instance, Pin, Pins};
 pub use laws::{
     fronts_are_runs, later_parts_are_runs, runs_go_by_instances, unnamed_bits_are_free,
@@ -70,6 +69,7 @@ pub use net::Net;
 pub use node::Node;
 pub use order_search::sorted;
 pub use partition::classes;
+pub use short_list::ShortList;
 pub use split::{Split, equal_delays_are_one, every_tick_counts, rise_mirrors_fall};
 pub use stability::stable;
 pub use text::Text;

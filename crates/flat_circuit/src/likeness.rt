@@ -31,7 +31,8 @@ fn are_targets_alike(classes: &[u32], a: Target, b: Target) -> bool
 }
 
 fn are_pins_alike(classes: &[u32], pin: Pin, other: Pin) -> bool
-    ensures { MatchBool result (PinsAlike classes.now pin other) (¬ (PinsAlike classes.now pin other)) }
+    ensures { MatchBool result (PinsAlike classes.now pin other)
+        (¬ (PinsAlike classes.now pin other)) }
 {
     pin.inverted == other.inverted
         && pin.hold == other.hold
@@ -54,7 +55,8 @@ fn are_all_pins_alike(classes: &[u32], a: &[Pin], b: &[Pin]) -> bool
 }
 
 fn are_instances_alike(classes: &[u32], a: &Instance, b: &Instance) -> bool
-    ensures { MatchBool result (InstancesAlike classes.now a.now b.now) (¬ (InstancesAlike classes.now a.now b.now)) }
+    ensures { MatchBool result (InstancesAlike classes.now a.now b.now)
+        (¬ (InstancesAlike classes.now a.now b.now)) }
 {
     a.kind == b.kind
         && a.delay == b.delay
@@ -73,7 +75,8 @@ fn driver<'a>(c: &'a Circuit, number: Option<u32>) -> Option<&'a Instance>
 }
 
 fn are_drivers_alike(classes: &[u32], a: Option<&Instance>, b: Option<&Instance>) -> bool
-    ensures { MatchBool result (DriversAlike classes.now (option_copied a.entry) (option_copied b.entry))
+    ensures { MatchBool result (DriversAlike classes.now (option_copied a.entry)
+        (option_copied b.entry))
         (¬ (DriversAlike classes.now (option_copied a.entry) (option_copied b.entry))) }
 {
     match a {
@@ -99,7 +102,8 @@ pub fn value_in(values: &[CaseValue], net: u32) -> Option<bool>
 }
 
 fn are_cases_alike(cases: &[Case], net: u32, other: u32) -> bool
-    ensures { MatchBool result (CasesAlike cases.now net other) (¬ (CasesAlike cases.now net other)) }
+    ensures { MatchBool result (CasesAlike cases.now net other)
+        (¬ (CasesAlike cases.now net other)) }
 {
     for case in cases {
         if value_in(case.as_slice(), net) != value_in(case.as_slice(), other) {
@@ -119,7 +123,8 @@ pub fn are_nets_alike(
     net: &Net,
     other_net: &Net,
 ) -> bool
-    ensures { MatchBool result (NetsAlike c.now cases.now classes.now number other net.now other_net.now)
+    ensures { MatchBool result
+        (NetsAlike c.now cases.now classes.now number other net.now other_net.now)
         (¬ (NetsAlike c.now cases.now classes.now number other net.now other_net.now)) }
 {
     net.wire == other_net.wire

@@ -8,7 +8,8 @@ ghost use Rattle.flat_circuit.specs.Limits.{high_of, hold_of, low_of, setup_of};
 pub enum Limits {
     /// What checks nothing has none.
     None,
-    /// For how long the input is to be stable up to an edge of the clock, and for how long after one.
+    /// For how long the input is to be stable up to an edge of the clock, and for how long after
+    /// one.
     Edges { setup: u16, hold: u16 },
     /// The least widths of high pulses and of low ones.
     Pulses { high: u16, low: u16 },

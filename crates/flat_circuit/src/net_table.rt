@@ -89,7 +89,8 @@ impl NetTable {
         }
     }
 
-    /// The names with the bounds of their wires, in the order of their numbers, without what finds a number.
+    /// The names with the bounds of their wires, in the order of their numbers, without what finds
+    /// a number.
     pub(crate) fn into_entries(self) -> IntoIter<NetName, Delay>
         ensures { net_entries result ≡ self }
     {

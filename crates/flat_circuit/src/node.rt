@@ -13,7 +13,8 @@ pub struct Node {
 pub(crate) fn feeder_at(nodes: &[Node], node: usize, at: usize) -> Option<usize>
     requires nodes { AreInRange nodes.now }
     requires node { node < length nodes.now }
-    ensures { MatchOption result (length (feeders_of nodes.now node) ≤ at) (IsFeeder nodes.now node at) }
+    ensures { MatchOption result (length (feeders_of nodes.now node) ≤ at)
+        (IsFeeder nodes.now node at) }
 {
     let feeders = &nodes[node].feeders;
     if at < feeders.len() {

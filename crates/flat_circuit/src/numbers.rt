@@ -12,8 +12,8 @@ pub fn put(numbers: &mut [u32], place: usize, number: u32) {
     }
 }
 
-/// How many nets or classes there are, or a place among them, in 32 bits, which are enough: a circuit has
-/// at most 65,536 nets.
+/// How many nets or classes there are, or a place among them, in 32 bits, which are enough: a
+/// circuit has at most 65,536 nets.
 pub fn narrow(count: usize) -> u32 {
     u32::try_from(count).unwrap_or(u32::MAX)
 }

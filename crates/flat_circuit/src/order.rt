@@ -29,7 +29,8 @@ pub(crate) fn by_name(alloc: Global, nets: &[Net]) -> Result<Vec<u32>, NoMemory>
     Ok(order)
 }
 
-/// Nets of one name that follow one another, with each the next bit: those from one number to before another.
+/// Nets of one name that follow one another, with each the next bit: those from one number to
+/// before another.
 #[derive(Clone, Copy)]
 struct Stretch {
     /// A part of the name as a number, which is greater where it comes later.
@@ -38,11 +39,12 @@ struct Stretch {
     end: u32,
 }
 
-/// The nets' numbers, stretch by stretch in the order of the first bytes of their names. That is their order but for
-/// very long names, so hardly any names are compared after it.
+/// The nets' numbers, stretch by stretch in the order of the first bytes of their names. That is
+/// their order but for very long names, so hardly any names are compared after it.
 fn nearly_by_name(alloc: Global, nets: &[Net]) -> Result<Vec<u32>, NoMemory>
     requires { length nets.now < 2 ^ 32 }
-    ensures { IfOk result (λ order. IsPermutation (range_with_len 0 (length nets.now)) order.items) }
+    ensures { IfOk result (λ order.
+        IsPermutation (range_with_len 0 (length nets.now)) order.items) }
 {
     let mut stretches = stretches(alloc, nets)?;
     sort_parts(nets, &mut stretches, 0, PARTS);
@@ -55,7 +57,8 @@ fn nearly_by_name(alloc: Global, nets: &[Net]) -> Result<Vec<u32>, NoMemory>
 
 /// Sorts stretches by so many parts of their names, of which this is the first.
 fn sort_parts(nets: &[Net], stretches: &mut [Stretch], first: usize, parts: usize)
-    ensures { IsPermutation (flat_map numbers_of stretches.old) (flat_map numbers_of stretches.new) }
+    ensures { IsPermutation (flat_map numbers_of stretches.old)
+        (flat_map numbers_of stretches.new) }
 {
     if parts == 0 {
         return;
@@ -150,8 +153,8 @@ fn follows(before: &Net, net: &Net) -> bool {
     u32::from(net.bit) == u32::from(before.bit) + 1 && net.name == before.name
 }
 
-/// A part of a net's name as a number, from this byte on, and the bit where the name ends in it. What is past the
-/// end counts 0.
+/// A part of a net's name as a number, from this byte on, and the bit where the name ends in it.
+/// What is past the end counts 0.
 fn part_of(net: &Net, first: usize) -> u128 {
     let name = net.name.as_slice();
     let rest = name.get(first..name.len()).unwrap_or(&[]);

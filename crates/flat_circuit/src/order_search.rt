@@ -31,7 +31,8 @@ pub struct Frame {
 pub fn sorted(alloc: Global, nodes: &[Node]) -> Result<Vec<usize>, NoMemory>
     requires nodes { AreInRange nodes.now }
     requires loopless { AreLoopless (feeders_of nodes.now) }
-    ensures { IfOk result (λ order. IsSorted (feeders_of nodes.now) (length nodes.now) order.items) }
+    ensures { IfOk result (λ order.
+        IsSorted (feeders_of nodes.now) (length nodes.now) order.items) }
 {
     let mut marks = vec![in alloc; Mark::Fresh; nodes.len()]?;
     let mut order = Vec::new(alloc);

@@ -1,10 +1,10 @@
 //! The making of classes: nets are taken for one until something tells them apart.
 //!
-//! What tells nets apart by themselves, and the values of cases, split the classes once. Then the nets
-//! whose drivers have a pin on a net of a new class are looked at again, until no class splits. Of the
-//! parts of a class the largest keeps its number where all of its nets were looked at, so a net gets a new
-//! number a few times at most in most circuits. Nets are compared by keys, and not with each other, so a
-//! look at some nets costs their pins and the sorting of their keys.
+//! What tells nets apart by themselves, and the values of cases, split the classes once. Then the
+//! nets whose drivers have a pin on a net of a new class are looked at again, until no class
+//! splits. Of the parts of a class the largest keeps its number where all of its nets were looked
+//! at, so a net gets a new number a few times at most in most circuits. Nets are compared by keys,
+//! and not with each other, so a look at some nets costs their pins and the sorting of their keys.
 
 ghost use Rattle.std.specs.Prelude.{◌≡◌, IfOk, length};
 
@@ -24,8 +24,8 @@ struct Run {
     end: u32,
 }
 
-/// Nets by the keys of what tells them apart. The bits of a vector mostly stand side by side and have one
-/// key, so keys are those of runs of nets and not of nets.
+/// Nets by the keys of what tells them apart. The bits of a vector mostly stand side by side and
+/// have one key, so keys are those of runs of nets and not of nets.
 #[derive(Drop, Debug)]
 struct Keyed {
     nets: Vec<u32>,
@@ -159,8 +159,8 @@ impl Partition {
         }
     }
 
-    /// Makes a class of the nets of each key, but for the largest of those that make up a class, and gives
-    /// the nets that have got a new class. Nets of one key are of one class.
+    /// Makes a class of the nets of each key, but for the largest of those that make up a class,
+    /// and gives the nets that have got a new class. Nets of one key are of one class.
     fn split(&mut self, alloc: Global, keyed: Keyed) -> Result<Vec<u32>, NoMemory> {
         let keyed = keyed.in_order(alloc)?;
         let mut parts = self.parts(alloc, &keyed)?;
@@ -187,8 +187,8 @@ impl Partition {
         }
     }
 
-    /// Makes a class of each part at hand, but for the first of those that make up a class, and gives the
-    /// nets that have got a new class.
+    /// Makes a class of each part at hand, but for the first of those that make up a class, and
+    /// gives the nets that have got a new class.
     fn make_classes(
         &mut self,
         alloc: Global,
@@ -236,8 +236,8 @@ impl Partition {
         put(&mut self.classes, net as usize, class);
     }
 
-    /// Separates a net from the others of its class, if there are any, and gives it if it has got a new
-    /// class.
+    /// Separates a net from the others of its class, if there are any, and gives it if it has got a
+    /// new class.
     fn split_off(&mut self, alloc: Global, net: u32) -> Result<Vec<u32>, NoMemory> {
         let mut changed = Vec::new(alloc);
         if at(&self.sizes, self.class(net) as usize) > 1 {
@@ -271,8 +271,9 @@ impl Partition {
         Ok(())
     }
 
-    /// Separates those of the nets whose drivers have pins on nets of different classes, and gives the
-    /// nets that have got a new class. One net alone leaves its class, whose other nets are not looked at.
+    /// Separates those of the nets whose drivers have pins on nets of different classes, and gives
+    /// the nets that have got a new class. One net alone leaves its class, whose other nets are not
+    /// looked at.
     fn split_by_pins(
         &mut self,
         alloc: Global,
@@ -298,7 +299,8 @@ impl Partition {
         Ok(())
     }
 
-    /// Separates the nets whose drivers have pins on nets of different classes, until no class splits.
+    /// Separates the nets whose drivers have pins on nets of different classes, until no class
+    /// splits.
     fn split_to_the_end(&mut self, alloc: Global, c: &Circuit) -> Result<(), NoMemory> {
         let mut feeds = Feeds::of(alloc, c)?;
         let mut nets = all_nets(alloc, c)?;
@@ -348,8 +350,9 @@ fn all_nets(alloc: Global, c: &Circuit) -> Result<Vec<u32>, NoMemory> {
     Ok(nets)
 }
 
-/// Gives each net the number of its class, which is that of one of its nets. They are the fewest classes
-/// for which `stable` is true, unless different nets have one key; but nothing depends on either.
+/// Gives each net the number of its class, which is that of one of its nets. They are the fewest
+/// classes for which `stable` is true, unless different nets have one key; but nothing depends on
+/// either.
 pub fn classes(alloc: Global, c: &Circuit, cases: &CaseList) -> Result<ClassMap, NoMemory>
     ensures { IfOk result (λ k. length k ≡ length c.now.nets) }
 {

@@ -14,8 +14,8 @@ use scald_base::{NoMemory, Place, RefusalKind, Stop};
 use std::alloc::Global;
 use vector_names::Target;
 
-/// Fails with `ZeroLoop` exactly where instances pass on at once round a loop, at the first instance
-/// that can be reached from one.
+/// Fails with `ZeroLoop` exactly where instances pass on at once round a loop, at the first
+/// instance that can be reached from one.
 pub(crate) fn no_loop(
     alloc: Global,
     nets: &NetTable,
@@ -23,7 +23,8 @@ pub(crate) fn no_loop(
     instances: &[Instance],
 ) -> Result<(), Stop>
     requires { DrivenTo instances.now (length drivers.now) (length instances.now) drivers.now }
-    ensures { MatchResult result (λ _. HoldsOfNone (IsLooped (bounds_at nets.now.wires) instances.now) instances.now)
+    ensures { MatchResult result (λ _.
+        HoldsOfNone (IsLooped (bounds_at nets.now.wires) instances.now) instances.now)
         (StopsAtLoop nets.now.wires instances.now) }
 {
     let nodes = nodes(alloc, nets, drivers, instances)?;
@@ -47,7 +48,8 @@ fn nodes(
     instances: &[Instance],
 ) -> Result<Vec<Node>, NoMemory>
     ensures { IfOk result (λ nodes. map node_feeders nodes.items
-        ≡ map (quick_feeders nets.now.wires drivers.now instances.now) (range_with_len 0 (length instances.now))) }
+        ≡ map (quick_feeders nets.now.wires drivers.now instances.now)
+        (range_with_len 0 (length instances.now))) }
 {
     let mut nodes = Vec::new(alloc);
     for k in 0..instances.len() {
@@ -67,7 +69,8 @@ fn quick_to(
     k: usize,
 ) -> Result<Vec<usize>, NoMemory>
     requires { k < length instances.now }
-    ensures { IfOk result (λ feeders. feeders.items ≡ quick_feeders nets.now.wires drivers.now instances.now k) }
+    ensures { IfOk result (λ feeders.
+        feeders.items ≡ quick_feeders nets.now.wires drivers.now instances.now k) }
 {
     if instances[k].out.is_some() {
         quick_all(
@@ -89,7 +92,8 @@ fn quick_all(
     instances: &[Instance],
     pins: &[Pin],
 ) -> Result<Vec<usize>, NoMemory>
-    ensures { IfOk result (λ feeders. feeders.items ≡ quick_list nets.now.wires drivers.now instances.now pins.now) }
+    ensures { IfOk result (λ feeders.
+        feeders.items ≡ quick_list nets.now.wires drivers.now instances.now pins.now) }
 {
     let mut list = Vec::new(alloc);
     for pin in pins {

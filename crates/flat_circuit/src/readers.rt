@@ -4,17 +4,17 @@ ghost use Rattle.std.specs.Prelude.{◌≡◌, ◌<◌, ◌^◌, ◌&&◌, ◌==
 ghost use Rattle.std.specs.List.{All, range_with_len};
 ghost use Rattle.element_kinds.specs.Kinds.{listens};
 ghost use Rattle.flat_circuit.specs.Instances.{InstanceExists, PinExists, TargetExists, is_on, readers_of};
-ghost use Rattle.flat_circuit.specs.Steps.{row_at, row_noted, row_told, told_by, last_is};
+ghost use Rattle.flat_circuit.specs.Steps.{row_at, row_noted, pins_noted, noted_by, last_is};
 
-use crate::few::Few;
 use crate::instance::{Instance, Pin};
+use crate::short_list::ShortList;
 use element_kinds::Kind;
 use scald_base::NoMemory;
 use std::alloc::Global;
 use vector_names::Target;
 
 /// The readers of a net, of which most have one or two.
-pub type Readers = Few<u32>;
+pub type Readers = ShortList<u32>;
 
 /// For each of so many nets, the instances with an output that listen to it, each once, ascending.
 pub(crate) fn readers(
@@ -24,7 +24,8 @@ pub(crate) fn readers(
 ) -> Result<Vec<Readers>, NoMemory>
     requires within { All (InstanceExists nets) instances.now }
     requires few { length instances.now < 2 ^ 32 }
-    ensures { IfOk result (λ rows. rows.items ≡ map (readers_of instances.now) (range_with_len 0 nets)) }
+    ensures { IfOk result (λ rows.
+        rows.items ≡ map (readers_of instances.now) (range_with_len 0 nets)) }
 {
     let mut rows = empty_rows(alloc, nets)?;
     for k in 0..instances.len() {
@@ -47,9 +48,9 @@ fn empty_rows(alloc: Global, count: usize) -> Result<Vec<Readers>, NoMemory>
 fn note_instance(rows: &mut Vec<Readers>, instance: &Instance, k: u32) -> Result<(), NoMemory>
     requires { InstanceExists (length rows.old.items) instance.now }
     ensures long { OnOk result (length rows.new.items ≡ length rows.old.items) }
-    ensures told { OnOk result
+    ensures noted { OnOk result
         ((i : ℕ) → row_at rows.new.items i
-        ≡ told_by instance.now i k (row_at rows.old.items i)) }
+        ≡ noted_by instance.now i k (row_at rows.old.items i)) }
 {
     if instance.out.is_some() {
         note_pins(rows, instance.kind, instance.pins.as_slice(), k)
@@ -61,8 +62,8 @@ fn note_instance(rows: &mut Vec<Readers>, instance: &Instance, k: u32) -> Result
 fn note_pins(rows: &mut Vec<Readers>, kind: Kind, pins: &[Pin], k: u32) -> Result<(), NoMemory>
     requires { All (PinExists (length rows.old.items)) pins.now }
     ensures long { OnOk result (length rows.new.items ≡ length rows.old.items) }
-    ensures told { OnOk result ((i : ℕ) →
-        row_at rows.new.items i ≡ row_told kind i k 0 pins.now (row_at rows.old.items i)) }
+    ensures noted { OnOk result ((i : ℕ) →
+        row_at rows.new.items i ≡ pins_noted kind i k 0 pins.now (row_at rows.old.items i)) }
 {
     for t in 0..pins.len() {
         note_pin(rows, kind, t, pins[t].target, k)?;
@@ -80,7 +81,7 @@ fn note_pin(
 ) -> Result<(), NoMemory>
     requires { TargetExists (length rows.old.items) target }
     ensures long { OnOk result (length rows.new.items ≡ length rows.old.items) }
-    ensures told { OnOk result
+    ensures noted { OnOk result
         ((i : ℕ) → row_at rows.new.items i ≡ (if listens kind place && is_on i
         target then row_noted (row_at rows.old.items i) k else row_at rows.old.items i)) }
 {
@@ -99,7 +100,7 @@ fn note_pin(
 fn note_at(rows: &mut Vec<Readers>, i: u32, k: u32) -> Result<(), NoMemory>
     requires { i < length rows.old.items }
     ensures long { OnOk result (length rows.new.items ≡ length rows.old.items) }
-    ensures told { OnOk result ((x : ℕ) → row_at rows.new.items
+    ensures noted { OnOk result ((x : ℕ) → row_at rows.new.items
         x ≡ (if i == x then row_noted (row_at rows.old.items x) k else row_at rows.old.items x)) }
 {
     note_row(&mut rows[i as usize], k)?;

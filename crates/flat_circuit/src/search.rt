@@ -37,7 +37,8 @@ pub struct Frame {
 pub(crate) fn first_from_loop(alloc: Global, nodes: &[Node]) -> Result<Option<usize>, NoMemory>
     requires { AreInRange nodes.now }
     ensures { IfOk result (λ first.
-        MatchOption first ((i : ℕ) → i < length nodes.now → ¬ (IsFedByLoop (feeders_of nodes.now) i))
+        MatchOption first ((i : ℕ) → i < length nodes.now →
+        ¬ (IsFedByLoop (feeders_of nodes.now) i))
         (IsFirstFed (feeders_of nodes.now))) }
 {
     let mut marks = vec![in alloc; Mark::Fresh; nodes.len()]?;
@@ -131,7 +132,8 @@ fn first_looped(marks: &[Mark]) -> Option<usize>
 fn feeder_at(nodes: &[Node], node: usize, at: usize) -> Option<usize>
     requires nodes { AreInRange nodes.now }
     requires node { node < length nodes.now }
-    ensures { MatchOption result (length (feeders_of nodes.now node) ≤ at) (IsFeeder nodes.now node at) }
+    ensures { MatchOption result (length (feeders_of nodes.now node) ≤ at)
+        (IsFeeder nodes.now node at) }
 {
     let feeders = &nodes[node].feeders;
     if at < feeders.len() {

@@ -6,8 +6,8 @@ ghost use Rattle.flat_circuit.specs.Split.{EqualDelaysAreOne, EveryTickCounts, R
 use scald_base::Delay;
 use std::cmp::{max, min};
 
-/// The bounds of a gate's two delays, in ticks: a change of its inputs that takes the output to 1 comes
-/// after the rise delay, and one that takes it to 0 after the fall delay.
+/// The bounds of a gate's two delays, in ticks: a change of its inputs that takes the output to 1
+/// comes after the rise delay, and one that takes it to 0 after the fall delay.
 #[derive(Clone, Copy, PartialEq, Eq, Debug)]
 pub struct Split {
     pub rise: Delay,
@@ -26,15 +26,16 @@ impl Split {
     }
 }
 
-/// Where the rise delay and the fall delay are equal, the equation of two delays is that of this delay,
-/// and is asked at the same ticks.
+/// Where the rise delay and the fall delay are equal, the equation of two delays is that of this
+/// delay, and is asked at the same ticks.
 pub fn equal_delays_are_one()
     ensures { EqualDelaysAreOne }
 {}
 
-/// Where the rise delay is at least the fall delay, the output is 1 just where the gate's own bit is 1 on
-/// all ticks from the rise delay before to the fall delay before. Where the fall delay is the greater,
-/// it is 1 just where that bit is 1 on some tick from the fall delay before to the rise delay before.
+/// Where the rise delay is at least the fall delay, the output is 1 just where the gate's own bit
+/// is 1 on all ticks from the rise delay before to the fall delay before. Where the fall delay is
+/// the greater, it is 1 just where that bit is 1 on some tick from the fall delay before to the
+/// rise delay before.
 pub fn every_tick_counts()
     ensures { EveryTickCounts }
 {}

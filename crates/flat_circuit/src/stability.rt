@@ -63,7 +63,8 @@ fn are_nets_as_their_numbers(c: &Circuit, classes: &[u32]) -> bool
 fn are_as_their_numbers(c: &Circuit, cases: &[Case], classes: &[u32]) -> bool
     requires one_each { length classes.now ≡ length c.now.nets }
     requires numbers { AreNumbersOfNets classes.now }
-    ensures { MatchBool result (IsStable c.now cases.now classes.now) (¬ (IsStable c.now cases.now classes.now)) }
+    ensures { MatchBool result (IsStable c.now cases.now classes.now)
+        (¬ (IsStable c.now cases.now classes.now)) }
 {
     if !are_nets_as_their_numbers(c, classes) {
         return false;
@@ -88,7 +89,8 @@ fn is_as_those_before(c: &Circuit, cases: &[Case], classes: &[u32], net: u32) ->
 
 /// Whether any two nets of one class are alike, whatever the classes' numbers are.
 fn are_alike_in_pairs(c: &Circuit, cases: &[Case], classes: &[u32]) -> bool
-    ensures { MatchBool result (IsStable c.now cases.now classes.now) (¬ (IsStable c.now cases.now classes.now)) }
+    ensures { MatchBool result (IsStable c.now cases.now classes.now)
+        (¬ (IsStable c.now cases.now classes.now)) }
 {
     for net in 0..c.net_count() {
         if !is_as_those_before(c, cases, classes, net) {
@@ -98,12 +100,13 @@ fn are_alike_in_pairs(c: &Circuit, cases: &[Case], classes: &[u32]) -> bool
     true
 }
 
-/// Whether nets of one class are indistinguishable, in the circuit and in each case: they then have one
-/// wave in every round. It needs no allocation. Where each class has the number of one of its nets,
-/// it looks at each net once, and once for each case; else at all pairs of nets.
+/// Whether nets of one class are indistinguishable, in the circuit and in each case: they then have
+/// one wave in every round. It needs no allocation. Where each class has the number of one of its
+/// nets, it looks at each net once, and once for each case; else at all pairs of nets.
 pub fn stable(c: &Circuit, cases: &CaseList, numbers: &ClassMap) -> bool
     requires { length numbers.now ≡ length c.now.nets }
-    ensures { MatchBool result (IsStable c.now cases.now numbers.now) (¬ (IsStable c.now cases.now numbers.now)) }
+    ensures { MatchBool result (IsStable c.now cases.now numbers.now)
+        (¬ (IsStable c.now cases.now numbers.now)) }
 {
     let cases = cases.as_slice();
     let classes = numbers.as_slice();

@@ -27,8 +27,8 @@ pub(crate) enum Kept {
     Long(Box<Vec<u8>>),
 }
 
-/// The bytes of a name, which contracts see as the list of them. Up to 15 lie in the value itself, and
-/// only more take memory. It takes less room than `Bytes`, since it never grows.
+/// The bytes of a name, which contracts see as the list of them. Up to 15 lie in the value itself,
+/// and only more take memory. It takes less room than `Bytes`, since it never grows.
 #[derive(Drop, Debug)]
 pub struct Text {
     kept: Kept,

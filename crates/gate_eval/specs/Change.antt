@@ -1,4 +1,5 @@
--- The change function: its output may change only where some pin may have changed, within the bounds of its delay before.
+-- The change function: its output may change only where some pin may have changed, within the
+-- bounds of its delay before.
 use Rattle.std.specs.Prelude.{ℕ, zero, suc, ◌+◌, ◌-◌, Bool, not, ◌&&◌, List, if◌then◌else◌}
 use Rattle.std.specs.List.{list_all}
 use Rattle.scald_base.specs.Clock.{back}
@@ -18,14 +19,17 @@ all_to f (suc n) = all_to f n && f (suc n)
 
 -- at the slots p - d.max to p - d.min the folds of all pins pass the test
 abbrev pub pass_before : (Value → Bool) → List (Wave Value) → Bounds → ℕ → Bool
-pass_before test waves d p = all_to (λ i. list_all test (folds_in values waves (back (period_of waves) p (d.min + i)))) (d.max - d.min)
+pass_before test waves d p =
+    all_to (λ i. list_all test (folds_in values waves (back (period_of waves) p (d.min + i))))
+    (d.max - d.min)
 
 abbrev pub is_known : Value → Bool
 is_known v = not (is_unknown v)
 
 -- S where all of these folds are quiet, U where one of them is U, and else C
 abbrev pub change_at : List (Wave Value) → Bounds → ℕ → Value
-change_at waves d p = if pass_before is_quiet waves d p then S else if pass_before is_known waves d p then C else U
+change_at waves d p =
+    if pass_before is_quiet waves d p then S else if pass_before is_known waves d p then C else U
 
 -- that in each slot, the delay counted in
 unfoldable pub change_wave : List (Wave Value) → Bounds → Wave Value

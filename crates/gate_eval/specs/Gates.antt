@@ -1,5 +1,5 @@
--- What a gate makes of a value for each of its pins: the cover of its image, made in steps of two pins, or of a select and
--- two inputs.
+-- What a gate makes of a value for each of its pins: the cover of its image, made in steps of two
+-- pins, or of a select and two inputs.
 use Rattle.std.specs.Prelude.{List, [], ◌∷◌, fold, slice_index_or}
 use Rattle.step_values.specs.declared.value.Value.{Value}
 use Rattle.step_values.specs.declared.value.Value.TheVariants.{U}

@@ -1,4 +1,5 @@
--- The mark `!H` at a pin of an AND or OR: while this pin lets the others through, they are to stay as they are.
+-- The mark `!H` at a pin of an AND or OR: while this pin lets the others through, they are to stay
+-- as they are.
 use Rattle.std.specs.Prelude.{◌≡◌, ◌≢◌, ℕ, zero, suc, ◌+◌, ◌-◌, ◌<◌, ◌≤◌, ◌==◌, ◌⊎◌, Bool, true, false, not, ◌&&◌, List, length, slice_index_or, Option, Some, None, if◌then◌else◌}
 use Rattle.std.specs.Option.{option_or, option_map}
 use Rattle.scald_base.specs.Signal.{Signal}
@@ -41,16 +42,20 @@ moves_beside marked folds pin = not (pin == marked) && not (is_quiet (value_of_p
 
 -- the first such pin
 abbrev pub mover_beside : ℕ → List Value → Option ℕ
-mover_beside marked folds = first_some (λ pin. if moves_beside marked folds pin then Some pin else None) (length folds) 0
+mover_beside marked folds =
+    first_some (λ pin. if moves_beside marked folds pin then Some pin else None) (length folds) 0
 
 -- by the folds of a slot: the first pin that may change while the marked one lets it through
 abbrev pub disturber : Kind → ℕ → List Value → Option ℕ
-disturber kind marked folds = if is_closed kind (value_of_pin folds marked) then None else mover_beside marked folds
+disturber kind marked folds =
+    if is_closed kind (value_of_pin folds marked) then None else mover_beside marked folds
 
 -- the first slot that has such a pin, and the first such pin there
 abbrev pub hazard_beside : Kind → List (Wave Value) → ℕ → Option (ℕ × ℕ)
 hazard_beside kind waves marked =
-    first_some (λ slot. option_map (λ pin. (slot, pin)) (disturber kind marked (folds_in values waves slot))) (period_of waves) 0
+    first_some (λ slot.
+    option_map (λ pin. (slot, pin)) (disturber kind marked (folds_in values waves slot)))
+    (period_of waves) 0
 
 -- the same, where a pin is marked
 unfoldable pub hazard : Kind → List (Wave Value) → Option ℕ → Option (ℕ × ℕ)
@@ -69,10 +74,13 @@ closed_bit kind = settling_bit (closes_of kind)
 abbrev pub IsHeld : Bool → ℕ → List Signal → ℕ → Type 0
 IsHeld closed marked signals t =
     ((nth_signal signals marked (t - 1) ≡ closed) × (nth_signal signals marked t ≡ closed))
-    ⊎ ((pin : ℕ) → pin < length signals → pin ≢ marked → nth_signal signals pin (t - 1) ≡ nth_signal signals pin t)
+    ⊎ ((pin : ℕ) → pin < length signals → pin ≢ marked →
+    nth_signal signals pin (t - 1) ≡ nth_signal signals pin t)
 
--- The pins' signals keep the rule of the mark at each tick from v on, where their waves permit them from there on.
+-- The pins' signals keep the rule of the mark at each tick from v on, where their waves permit them
+-- from there on.
 abbrev pub KeepsMark : Kind → List (Wave Value) → Option ℕ → Type 0
 KeepsMark kind waves mark =
-    (marked n v t : ℕ) (signals : List Signal) → mark ≡ Some marked → AllPermit values waves n signals v → 1 ≤ t → v ≤ t → t < n →
+    (marked n v t : ℕ) (signals : List Signal) → mark ≡ Some marked →
+    AllPermit values waves n signals v → 1 ≤ t → v ≤ t → t < n →
     IsHeld (closed_bit kind) marked signals t

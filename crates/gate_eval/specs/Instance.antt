@@ -43,12 +43,15 @@ MarkFits kind (Some marked) pins = MarkIsAt (closes_of kind) marked pins
 abbrev pub wave_of_pin : List (Wave Value) → ℕ → Wave Value
 wave_of_pin waves pin = slice_index_or waves pin (skewed [] 0)
 
--- What passes while the other pins stay as they are: the image of the marked wave and S, with its skew.
+-- What passes while the other pins stay as they are: the image of the marked wave and S, with its
+-- skew.
 abbrev pub held_wave : (List Value → Value) → Wave Value → Wave Value
 held_wave image w = skewed (map (λ v. image (v ∷ S ∷ [])) w.cells) w.skew
 
--- Where a pin is marked and nothing disturbs it, what passes of its wave; else what the waves make where they meet.
-abbrev pub image_by : (List Value → Value) → List (Wave Value) → Option ℕ → Option (ℕ × ℕ) → Wave Value
+-- Where a pin is marked and nothing disturbs it, what passes of its wave; else what the waves make
+-- where they meet.
+abbrev pub image_by : (List Value → Value) → List (Wave Value) → Option ℕ → Option (ℕ × ℕ) →
+    Wave Value
 image_by image waves (Some marked) None = held_wave image (wave_of_pin waves marked)
 image_by image waves marked hazard = meeting values image waves
 
@@ -67,9 +70,12 @@ wave_by (Checker check) kind waves marked d = moved values (gate_image kind wave
 unfoldable pub gate_wave : Kind → List (Wave Value) → Option ℕ → Bounds → Wave Value
 gate_wave kind waves marked d = wave_by (form_of kind) kind waves marked d
 
--- The pins' signals are n bits long, and their waves permit them from tick v on. Then the wave permits each output that
--- obeys the equation of its kind at its ticks from v + d.max on, from the next tick on, with one offset for all of it.
+-- The pins' signals are n bits long, and their waves permit them from tick v on. Then the wave
+-- permits each output that obeys the equation of its kind at its ticks from v + d.max on, from the
+-- next tick on, with one offset for all of it.
 abbrev pub IsSound : Kind → Bounds → List (Wave Value) → Wave Value → Type 0
 IsSound kind d waves wave =
-    (n m v delay : ℕ) (signals : List Signal) (output : Signal) → AllPermit values waves n signals v → 1 ≤ v → DelayFits kind d delay → m ≤ n + d.min →
-    ((t : ℕ) → v + d.max ≤ t → t < m → Equation kind d delay signals output t) → Permits values wave m output (v + d.max + 1)
+    (n m v delay : ℕ) (signals : List Signal) (output : Signal) →
+    AllPermit values waves n signals v → 1 ≤ v → DelayFits kind d delay → m ≤ n + d.min →
+    ((t : ℕ) → v + d.max ≤ t → t < m → Equation kind d delay signals output t) →
+    Permits values wave m output (v + d.max + 1)

@@ -12,4 +12,5 @@ AllPermit k waves n signals v = AllZip (λ w x. Permits k w n x v) waves signals
 
 -- each cell permits its signal's step at tick t
 abbrev pub AllHave : {T : Type 0} → Cells T → List T → List Signal → ℕ → Type 0
-AllHave k cells signals t = AllZip (λ c (x : Signal). k.has c (x (t - 1)) (x t) ≡ true) cells signals
+AllHave k cells signals t =
+    AllZip (λ c (x : Signal). k.has c (x (t - 1)) (x t) ≡ true) cells signals

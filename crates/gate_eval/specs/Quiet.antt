@@ -26,7 +26,8 @@ IsQuietBefore d p w = (o : ℕ) → d.min ≤ o → o ≤ d.max → IsQuietAt (b
 -- what is late by a delay is quiet where the wave is quiet that much before
 abbrev pub LateIsQuiet : Type 0
 LateIsQuiet =
-    (w : Wave Value) (d : Bounds) (p : ℕ) → 0 < length w.cells → d.min ≤ d.max → IsQuietBefore d p w →
+    (w : Wave Value) (d : Bounds) (p : ℕ) → 0 < length w.cells → d.min ≤ d.max →
+    IsQuietBefore d p w →
     IsQuietAt p (moved values w d)
 
 -- the pins fit the kind
@@ -39,12 +40,15 @@ pub record AreFitting (kind : Kind) (waves : List (Wave Value)) (marked : Option
 -- A gate or a change function, of one delay, is quiet where all its pins are quiet where it looks.
 abbrev pub GatesAreQuiet : Type 0
 GatesAreQuiet =
-    (kind : Kind) (waves : List (Wave Value)) (marked : Option ℕ) (d : Bounds) (p : ℕ) → is_gate kind ≡ true →
-    AreFitting kind waves marked → d.min ≤ d.max → All (IsQuietBefore d p) waves → IsQuietAt p (gate_wave kind waves marked d)
+    (kind : Kind) (waves : List (Wave Value)) (marked : Option ℕ) (d : Bounds) (p : ℕ) →
+    is_gate kind ≡ true →
+    AreFitting kind waves marked → d.min ≤ d.max → All (IsQuietBefore d p) waves →
+    IsQuietAt p (gate_wave kind waves marked d)
 
 -- So is a gate of two delays, which looks from the least to the greatest of both.
 abbrev pub SplitsAreQuiet : Type 0
 SplitsAreQuiet =
-    (kind : Kind) (waves : List (Wave Value)) (marked : Option ℕ) (s : Split) (p : ℕ) → form_of kind ≡ Gate →
+    (kind : Kind) (waves : List (Wave Value)) (marked : Option ℕ) (s : Split) (p : ℕ) →
+    form_of kind ≡ Gate →
     AreFitting kind waves marked → s.rise.min ≤ s.rise.max → s.fall.min ≤ s.fall.max →
     All (IsQuietBefore (either_delay s) p) waves → IsQuietAt p (split_wave kind waves marked s)

@@ -1,6 +1,6 @@
--- How the slots of two delays are found: the bits that the output may be at, by what the slots from the
--- greatest to the least of both delays before may hold together, and those that the rise delay and the
--- fall delay reach; then the edges that those of the slot before leave.
+-- How the slots of two delays are found: the bits that the output may be at, by what the slots from
+-- the greatest to the least of both delays before may hold together, and those that the rise delay
+-- and the fall delay reach; then the edges that those of the slot before leave.
 use Rattle.std.specs.Prelude.{ℕ, nat_le, Bool, true, false, ◌&&◌, if◌then◌else◌, List}
 use Rattle.step_values.specs.declared.value.Value.{Value}
 use Rattle.step_values.specs.declared.value.Value.TheVariants.{Zero, One, S, U}
@@ -13,8 +13,8 @@ use Rattle.gate_eval.specs.Split.{ends_in, may_rise, may_fall}
 
 -- ---- the bits
 
--- an output that stays at one of the bits that it may be at: U where it may be at both, and something
--- is unknown
+-- an output that stays at one of the bits that it may be at: U where it may be at both, and
+-- something is unknown
 abbrev pub resting : Bool → Bool → Bool → Value
 resting true true true = U
 resting true true false = S
@@ -44,7 +44,8 @@ bits_seen s either rise fall =
 
 -- by the cells of the windows in a slot
 abbrev pub bits_at : Split → List Value → List Value → List Value → ℕ → Value
-bits_at s either rise fall p = bits_seen s (cell_at values either p) (cell_at values rise p) (cell_at values fall p)
+bits_at s either rise fall p =
+    bits_seen s (cell_at values either p) (cell_at values rise p) (cell_at values fall p)
 
 -- ---- the edges
 
@@ -58,10 +59,12 @@ edges_after rise fall = edges (may_rise rise) (may_fall fall)
 
 -- those of them that begin at a bit of the slot before
 abbrev pub edges_from : Value → Value → Value
-edges_from before after = edges (ends_in false before && may_rise after) (ends_in true before && may_fall after)
+edges_from before after =
+    edges (ends_in false before && may_rise after) (ends_in true before && may_fall after)
 
 -- what the output may do: stay at its bits, and come to them by these edges
 abbrev pub output_of : Value → Value → Value
 output_of bits edges =
-    cover_of (ends_in false bits) (ends_in true bits && may_rise edges) (ends_in false bits && may_fall edges)
+    cover_of (ends_in false bits) (ends_in true bits && may_rise edges)
+    (ends_in false bits && may_fall edges)
     (ends_in true bits) (is_unknown bits)

@@ -27,7 +27,8 @@ pub fn window<W: CyclicWave<Item = Value>>(
 ) -> Result<W, NoMemory>
     requires { skew < 4096 }
     ensures { IfOk result (λ w.
-        W.cells w ≡ slots (length (W.cells wave.now)) (window_at (skewed (W.cells wave.now) skew) d)) }
+        W.cells w ≡ slots (length (W.cells wave.now))
+        (window_at (skewed (W.cells wave.now) skew) d)) }
 {
     let turned = wave.rotate(alloc, d.min)?;
     let back = min(skew + (d.max - d.min), wave.period() - 1);
@@ -37,13 +38,14 @@ pub fn window<W: CyclicWave<Item = Value>>(
 /// What either wave may hold in each slot.
 fn joined<W: CyclicWave<Item = Value>>(alloc: Global, one: &W, other: &W) -> Result<W, NoMemory>
     requires { length (W.cells one.now) ≡ length (W.cells other.now) }
-    ensures { IfOk result (λ w. W.cells w ≡ map (λ q. join q.0 q.1) (zip (W.cells one.now) (W.cells other.now))) }
+    ensures { IfOk result (λ w.
+        W.cells w ≡ map (λ q. join q.0 q.1) (zip (W.cells one.now) (W.cells other.now))) }
 {
     one.zip(alloc, other, |v, w| v.join(w))
 }
 
-/// What is seen of some pins, in two parts. Pins side by side mostly have one skew, as the bits of a
-/// vector do, and then one window serves them all.
+/// What is seen of some pins, in two parts. Pins side by side mostly have one skew, as the bits of
+/// a vector do, and then one window serves them all.
 #[derive(Drop)]
 struct Gathered<W: CyclicWave> {
     /// What the windows of the first pins may hold.
@@ -87,7 +89,8 @@ impl<W: CyclicWave<Item = Value>> Gathered<W> {
         requires pin { length (W.cells self.last) ≡ length pin.now.cells }
         requires short { self.skew < 4096 }
         ensures { IfOk result (λ g. Counts pin.now d (W.cells self.seen)
-            (skewed (W.cells self.last) self.skew) (W.cells g.seen) (skewed (W.cells g.last) g.skew)) }
+            (skewed (W.cells self.last) self.skew) (W.cells g.seen)
+            (skewed (W.cells g.last) g.skew)) }
     {
         pin.known();
         let cells = pin.wave();

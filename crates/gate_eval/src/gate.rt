@@ -30,7 +30,8 @@ fn passing<W: CyclicWave<Item = Value>, I: Image>(
     image: &I,
     pin: &Skewed<W>,
 ) -> Result<Made<W>, NoMemory>
-    ensures made { IfOk result (λ m. skewed (W.cells m.wave) m.skew ≡ held_wave (I.value_of image.now) pin.now) }
+    ensures made { IfOk result (λ m.
+        skewed (W.cells m.wave) m.skew ≡ held_wave (I.value_of image.now) pin.now) }
     ensures short { IfOk result (λ m. m.skew < 4096) }
 {
     pin.known();
@@ -41,8 +42,8 @@ fn passing<W: CyclicWave<Item = Value>, I: Image>(
     })
 }
 
-/// What an AND or OR with a marked pin makes of its pins' waves, before its delay. Each pin is folded
-/// once.
+/// What an AND or OR with a marked pin makes of its pins' waves, before its delay. Each pin is
+/// folded once.
 fn marked_gate<W: CyclicWave<Item = Value>, I: Image>(
     alloc: Global,
     kind: Kind,
@@ -78,7 +79,8 @@ fn markable_gate<W: CyclicWave<Item = Value>, I: Image>(
     requires periods { HaveOnePeriod (map (λ p. p.wave) pins.now) }
     ensures made { let waves = map (λ p. p.wave) pins.now in
         IfOk result (λ m. skewed (W.cells m.wave) m.skew ≡ image_by (I.value_of image.now)
-        waves (position (λ p. p.hold) pins.now) (hazard kind waves (position (λ p. p.hold) pins.now))) }
+        waves (position (λ p. p.hold) pins.now)
+        (hazard kind waves (position (λ p. p.hold) pins.now))) }
     ensures short { IfOk result (λ m. m.skew < 4096) }
 {
     match marked_pin(pins) {
@@ -124,7 +126,8 @@ fn delayed<W: CyclicWave<Item = Value>>(
     requires some { 0 < length pins.now }
     requires mark { MarkFits kind (position (λ p. p.hold) pins.now) (length pins.now) }
     requires periods { HaveOnePeriod (map (λ p. p.wave) pins.now) }
-    ensures { IfOk result (λ s. s ≡ gate_wave kind (map (λ p. p.wave) pins.now) (position (λ p. p.hold) pins.now) d) }
+    ensures { IfOk result (λ s.
+        s ≡ gate_wave kind (map (λ p. p.wave) pins.now) (position (λ p. p.hold) pins.now) d) }
 {
     let made = at_once(alloc, kind, pins)?;
     late(alloc, &made.wave, made.skew, d)
@@ -137,7 +140,8 @@ fn passed<W: CyclicWave<Item = Value>>(
     d: Delay,
 ) -> Result<Skewed<W>, NoMemory>
     requires { length pins.now ≡ 1 }
-    ensures { IfOk result (λ s. s ≡ moved values (meeting values passed_on (map (λ p. p.wave) pins.now)) d) }
+    ensures { IfOk result (λ s.
+        s ≡ moved values (meeting values passed_on (map (λ p. p.wave) pins.now)) d) }
 {
     pins[0].wave.moved(alloc, d)
 }
@@ -150,7 +154,8 @@ fn buffered<W: CyclicWave<Item = Value>>(
 ) -> Result<Skewed<W>, NoMemory>
     requires some { 0 < length pins.now }
     requires periods { HaveOnePeriod (map (λ p. p.wave) pins.now) }
-    ensures { IfOk result (λ s. s ≡ moved values (meeting values passed_on (map (λ p. p.wave) pins.now)) d) }
+    ensures { IfOk result (λ s.
+        s ≡ moved values (meeting values passed_on (map (λ p. p.wave) pins.now)) d) }
 {
     if pins.len() == 1 {
         passed(alloc, pins, d)
@@ -170,7 +175,8 @@ fn evaluated<W: CyclicWave<Item = Value>>(
     requires some { 0 < length pins.now }
     requires mark { MarkFits kind (position (λ p. p.hold) pins.now) (length pins.now) }
     requires periods { HaveOnePeriod (map (λ p. p.wave) pins.now) }
-    ensures { IfOk result (λ s. s ≡ gate_wave kind (map (λ p. p.wave) pins.now) (position (λ p. p.hold) pins.now) d) }
+    ensures { IfOk result (λ s.
+        s ≡ gate_wave kind (map (λ p. p.wave) pins.now) (position (λ p. p.hold) pins.now) d) }
 {
     match kind {
         Kind::Buf => buffered(alloc, pins, d),
@@ -179,8 +185,8 @@ fn evaluated<W: CyclicWave<Item = Value>>(
     }
 }
 
-/// The wave of the output of a gate or change function, before the output's complement, from the waves
-/// of its pins and the bounds of its delay, in ticks. It fails only where memory runs out.
+/// The wave of the output of a gate or change function, before the output's complement, from the
+/// waves of its pins and the bounds of its delay, in ticks. It fails only where memory runs out.
 pub fn eval_gate<W: CyclicWave<Item = Value>>(
     alloc: Global,
     kind: Kind,

@@ -55,7 +55,8 @@ fn disturber_among<W: CyclicWave<Item = Value>>(
 ) -> Option<usize>
     requires marked { marked < length folds.now }
     requires slot { All (λ w. slot < length (W.cells w)) folds.now }
-    ensures { result ≡ disturber kind marked (map (λ w. cell_at values (W.cells w) slot) folds.now) }
+    ensures { result ≡ disturber kind marked
+        (map (λ w. cell_at values (W.cells w) slot) folds.now) }
 {
     if is_closed(kind, folds[marked].at(slot)) {
         return None;
@@ -68,7 +69,8 @@ fn disturber_among<W: CyclicWave<Item = Value>>(
     None
 }
 
-/// Whether no pin but the marked one may change while that one lets it through, by the folds of all.
+/// Whether no pin but the marked one may change while that one lets it through, by the folds of
+/// all.
 pub fn is_held<W: CyclicWave<Item = Value>>(
     kind: Kind,
     folds: &[W],
@@ -99,7 +101,8 @@ fn disturber_at<W: CyclicWave<Item = Value>>(
 ) -> Option<usize>
     requires marked { marked < length pins.now }
     requires slot { All (λ p. slot < length p.wave.cells) pins.now }
-    ensures first { result ≡ disturber kind marked (folds_in values (map (λ p. p.wave) pins.now) slot) }
+    ensures first { result ≡ disturber kind marked
+        (folds_in values (map (λ p. p.wave) pins.now) slot) }
     ensures within { IfSome result (λ i. i < length pins.now) }
 {
     if is_closed(kind, pins[marked].wave.fold_at(slot)) {
@@ -118,7 +121,8 @@ fn disturber_at<W: CyclicWave<Item = Value>>(
 fn same_fold_until<W: CyclicWave<Item = Value>>(wave: &Skewed<W>, slot: u16) -> u16
     requires { slot < length wave.now.cells }
     ensures behind { slot < result }
-    ensures same { (p : ℕ) → slot ≤ p → p < result → fold values wave.now p ≡ fold values wave.now slot }
+    ensures same { (p : ℕ) → slot ≤ p → p < result →
+        fold values wave.now p ≡ fold values wave.now slot }
 {
     wave.known();
     let period = wave.period();
@@ -129,8 +133,8 @@ fn same_fold_until<W: CyclicWave<Item = Value>>(wave: &Skewed<W>, slot: u16) -> 
     min(coming, slot + (leaving - first))
 }
 
-/// A slot after this one, before which each pin may hold in each slot what it may in this one, or the
-/// period.
+/// A slot after this one, before which each pin may hold in each slot what it may in this one, or
+/// the period.
 fn next_fold_change<W: CyclicWave<Item = Value>>(pins: &[PinWave<W>], slot: u16, period: u16) -> u16
     requires slot { slot < period }
     requires pins { All (λ p. length p.wave.cells ≡ period) pins.now }
@@ -165,14 +169,16 @@ fn hazard_among<W: CyclicWave<Item = Value>>(kind: Kind, pins: &[PinWave<W>]) ->
     None
 }
 
-/// The hazard of a marked pin: the first slot in which it lets the others through and another pin may
-/// change, and the first such pin there, from 0. `None` where no pin is marked, and where there is no
-/// such slot.
+/// The hazard of a marked pin: the first slot in which it lets the others through and another pin
+/// may change, and the first such pin there, from 0. `None` where no pin is marked, and where there
+/// is no such slot.
 pub fn hold_fault<W: CyclicWave<Item = Value>>(kind: Kind, pins: &PinWaves<W>) -> Option<(u16, u16)>
     requires pins { CountsFit kind (length pins.now) (count_by (λ p. p.hold) pins.now) }
     requires periods { HaveOnePeriod (map (λ p. p.wave) pins.now) }
-    ensures first { result ≡ hazard kind (map (λ p. p.wave) pins.now) (position (λ p. p.hold) pins.now) }
-    ensures sound { IfNone result (KeepsMark kind (map (λ p. p.wave) pins.now) (position (λ p. p.hold) pins.now)) }
+    ensures first { result ≡ hazard kind (map (λ p. p.wave) pins.now)
+        (position (λ p. p.hold) pins.now) }
+    ensures sound { IfNone result (KeepsMark kind (map (λ p. p.wave) pins.now)
+        (position (λ p. p.hold) pins.now)) }
 {
     hazard_among(kind, pins.as_slice())
 }

@@ -1,5 +1,6 @@
-//! What a kind of gate makes of a value for each of its pins. The kinds of two values have a table; that
-//! of a multiplexer would have an entry for each of 343 choices, of which waves mostly show few.
+//! What a kind of gate makes of a value for each of its pins. The kinds of two values have a table;
+//! that of a multiplexer would have an entry for each of 343 choices, of which waves mostly show
+//! few.
 
 ghost use Rattle.step_values.specs.Image.{mux2_of};
 ghost use Rattle.step_values.specs.Table.{entry2};

@@ -25,8 +25,8 @@ pub trait Image {
         ensures { result ≡ value_of self.now found.now };
 }
 
-/// What an element makes of its pins' waves before its delay: a wave, and the most ticks by which the
-/// whole of it may be late. It need not be in normal form.
+/// What an element makes of its pins' waves before its delay: a wave, and the most ticks by which
+/// the whole of it may be late. It need not be in normal form.
 #[derive(Drop)]
 pub struct Made<W: CyclicWave> {
     pub wave: W,
@@ -85,7 +85,8 @@ pub fn folded_waves<W: CyclicWave<Item = Value>>(
     alloc: Global,
     pins: &[PinWave<W>],
 ) -> Result<Vec<W>, NoMemory>
-    ensures { IfOk result (λ ws. map (λ w. W.cells w) ws.items ≡ map (λ p. folded values p.wave) pins.now) }
+    ensures { IfOk result (λ ws.
+        map (λ w. W.cells w) ws.items ≡ map (λ p. folded values p.wave) pins.now) }
 {
     let mut waves = Vec::with_capacity(alloc, pins.len())?;
     for pin in pins {
@@ -117,7 +118,8 @@ pub fn next_change<W: CyclicWave<Item = Value>>(waves: &[W], slot: u16, period: 
     ensures behind { slot < result }
     ensures within { result ≤ period }
     ensures same { (p : ℕ) → slot ≤ p → p < result →
-        map (λ w. cell_at values (W.cells w) p) waves.now ≡ map (λ w. cell_at values (W.cells w) slot) waves.now }
+        map (λ w. cell_at values (W.cells w) p) waves.now
+        ≡ map (λ w. cell_at values (W.cells w) slot) waves.now }
 {
     let mut next = period;
     for wave in waves {
@@ -143,7 +145,8 @@ fn imaged_alone<W: CyclicWave<Item = Value>, I: Image>(
     image: &I,
     only: &W,
 ) -> Result<W, NoMemory>
-    ensures { IfOk result (λ w. W.cells w ≡ map (λ v. I.value_of image.now (v ∷ [])) (W.cells only.now)) }
+    ensures { IfOk result (λ w.
+        W.cells w ≡ map (λ v. I.value_of image.now (v ∷ [])) (W.cells only.now)) }
 {
     only.map(alloc, |v| image.value(&[v]))
 }
@@ -157,7 +160,8 @@ fn imaged_both<W: CyclicWave<Item = Value>, I: Image>(
 ) -> Result<W, NoMemory>
     requires { length (W.cells one.now) ≡ length (W.cells other.now) }
     ensures { IfOk result (λ w.
-        W.cells w ≡ map (λ q. I.value_of image.now (q.0 ∷ q.1 ∷ [])) (zip (W.cells one.now) (W.cells other.now))) }
+        W.cells w ≡ map (λ q. I.value_of image.now (q.0 ∷ q.1 ∷ []))
+        (zip (W.cells one.now) (W.cells other.now))) }
 {
     one.zip(alloc, other, |v, u| image.value(&[v, u]))
 }
@@ -172,7 +176,8 @@ fn imaged_slots<W: CyclicWave<Item = Value>, I: Image>(
     requires period { IsPeriod period }
     requires waves { All (λ w. length (W.cells w) ≡ period) waves.now }
     ensures { IfOk result (λ w.
-        W.cells w ≡ slots period (λ p. I.value_of image.now (map (λ u. cell_at values (W.cells u) p) waves.now))) }
+        W.cells w ≡ slots period (λ p.
+        I.value_of image.now (map (λ u. cell_at values (W.cells u) p) waves.now))) }
 {
     let mut cells = Vec::with_capacity(alloc, period as usize)?;
     let mut found = Vec::with_capacity(alloc, waves.len())?;
@@ -197,7 +202,8 @@ fn imaged<W: CyclicWave<Item = Value>, I: Image>(
     requires period { IsPeriod period }
     requires waves { All (λ w. length (W.cells w) ≡ period) waves.now }
     ensures { IfOk result (λ w.
-        W.cells w ≡ slots period (λ p. I.value_of image.now (map (λ u. cell_at values (W.cells u) p) waves.now))) }
+        W.cells w ≡ slots period (λ p.
+        I.value_of image.now (map (λ u. cell_at values (W.cells u) p) waves.now))) }
 {
     match waves {
         [only] => imaged_alone(alloc, image, only),
@@ -206,7 +212,8 @@ fn imaged<W: CyclicWave<Item = Value>, I: Image>(
     }
 }
 
-/// What an element makes of its pins' waves, without their skews. Those of one pin or two are not copied.
+/// What an element makes of its pins' waves, without their skews. Those of one pin or two are not
+/// copied.
 fn imaged_own<W: CyclicWave<Item = Value>, I: Image>(
     alloc: Global,
     image: &I,
@@ -241,7 +248,8 @@ pub fn by_slots<W: CyclicWave<Item = Value>, I: Image>(
     requires periods { HaveOnePeriod (map (λ p. p.wave) pins.now) }
     ensures made { let waves = map (λ p. p.wave) pins.now in
         IfOk result (λ m. skewed (W.cells m.wave) m.skew
-        ≡ skewed (slots (period_of waves) (λ p. I.value_of image.now (cells_in values waves p))) skew) }
+        ≡ skewed (slots (period_of waves) (λ p.
+        I.value_of image.now (cells_in values waves p))) skew) }
     ensures skew { IfOk result (λ m. m.skew ≡ skew) }
 {
     let made = imaged_own(alloc, image, pins, pins[0].wave.period())?;
@@ -260,7 +268,8 @@ pub fn by_folds<W: CyclicWave<Item = Value>, I: Image>(
     requires folds { map (λ w. W.cells w) folds.now ≡ map (λ p. folded values p.wave) pins.now }
     ensures made { let waves = map (λ p. p.wave) pins.now in
         IfOk result (λ m. skewed (W.cells m.wave) m.skew
-        ≡ skewed (slots (period_of waves) (λ p. I.value_of image.now (folds_in values waves p))) 0) }
+        ≡ skewed (slots (period_of waves) (λ p.
+        I.value_of image.now (folds_in values waves p))) 0) }
     ensures skew { IfOk result (λ m. m.skew ≡ 0) }
 {
     let made = imaged(alloc, image, folds, pins[0].wave.period())?;
@@ -280,7 +289,8 @@ pub fn met_at_once<W: CyclicWave<Item = Value>, I: Image>(
     requires some { 0 < length pins.now }
     requires periods { HaveOnePeriod (map (λ p. p.wave) pins.now) }
     ensures made { IfOk result (λ m.
-        skewed (W.cells m.wave) m.skew ≡ meeting values (I.value_of image.now) (map (λ p. p.wave) pins.now)) }
+        skewed (W.cells m.wave) m.skew
+        ≡ meeting values (I.value_of image.now) (map (λ p. p.wave) pins.now)) }
     ensures short { IfOk result (λ m. m.skew < 4096) }
 {
     match kept_skew(pins) {

@@ -198,14 +198,15 @@ fn outputs<W: CyclicWave<Item = Value>>(alloc: Global, bits: &W, edges: &W) -> R
     bits.zip(alloc, edges, |v, w| output(v, w))
 }
 
-/// The cells of the image of a gate's pins, late by the gate's two delays. Each wave here is made of
-/// others from change to change.
+/// The cells of the image of a gate's pins, late by the gate's two delays. Each wave here is made
+/// of others from change to change.
 fn late_by_two<W: CyclicWave<Item = Value>>(
     alloc: Global,
     wave: &W,
     s: &Split,
 ) -> Result<W, NoMemory>
-    ensures { IfOk result (λ w. W.cells w ≡ slots (length (W.cells wave.now)) (split_value s.now (W.cells wave.now))) }
+    ensures { IfOk result (λ w.
+        W.cells w ≡ slots (length (W.cells wave.now)) (split_value s.now (W.cells wave.now))) }
 {
     s.rise.known();
     s.fall.known();
@@ -238,8 +239,8 @@ fn evaluated<W: CyclicWave<Item = Value>>(
     Skewed::normal(alloc, late, made.skew)
 }
 
-/// The wave of the output of a gate with two delays, before the output's complement, from the waves of
-/// its pins and the bounds of its delays, in ticks. It fails only where memory runs out.
+/// The wave of the output of a gate with two delays, before the output's complement, from the waves
+/// of its pins and the bounds of its delays, in ticks. It fails only where memory runs out.
 pub fn eval_split<W: CyclicWave<Item = Value>>(
     alloc: Global,
     kind: Kind,
@@ -256,8 +257,8 @@ pub fn eval_split<W: CyclicWave<Item = Value>>(
     evaluated(alloc, kind, pins.as_slice(), &s)
 }
 
-/// In every slot the output of a gate with two delays may be 0 or 1, whatever the image is, so its value
-/// there covers some step.
+/// In every slot the output of a gate with two delays may be 0 or 1, whatever the image is, so its
+/// value there covers some step.
 pub fn some_bit_is_left()
     ensures { SomeBitIsLeft }
 {}

@@ -74,9 +74,9 @@ module _ (e : Expansion) (j : Instance) (built : IsBuilt e.builder) where
       })
 
   pub bit_refused : (stop : Stop) → IsInstanceRefusal e.builder j stop → Failed stop (adding (instance_of (names_in e) j) (state_of e))
-  bit_refused NoMemory h = record { told = λ r is. absurd (cc) }
+  bit_refused NoMemory h = record { agrees = λ r is. absurd (cc) }
   bit_refused (Refused at) h = record {
-    told = λ r is.
+    agrees = λ r is.
         let same : at ≡ r = cc in
         let full : are_few (map (instance_of (names_in e)) e.builder.instances ++ instance_of (names_in e) j ∷ []) ≡ false = room (names_in e) e.builder.instances j built.few ∙ ap not h.1 in
         subst (λ (x : Refusal). adding (instance_of (names_in e) j) (state_of e) ≡ Fails x.kind x.place) (sym h.0 ∙ same) (rw full refl);
@@ -143,7 +143,7 @@ module _ (start : Expansion) (path : List ℕ) (u : UseStmt) (kind : Kind) (plan
 
   pub bits_none : WentOn bit_step start all_bits (range_with_len 0 n) start
   unfolding all_added
-  bits_none = record { went = record { told = refl; grows = grows_refl start }; same = record { names = refl; header = refl } }
+  bits_none = record { went = record { agrees = refl; grows = grows_refl start }; same = record { names = refl; header = refl } }
 
   module _ (k : ℕ) (e : Expansion) (w : WentOn bit_step start all_bits (drop k (range_with_len 0 n)) e) where
     as_named : instance_of (names_in e) (instance_ref path u kind plan ins outs k) ≡ instance_at path (use_of u) kind plan named_ins named_outs k

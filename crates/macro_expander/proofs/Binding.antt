@@ -255,24 +255,24 @@ module _ (consts : List Binding) (m : Macro) (given : List Binding) (s : numbere
   pub inside_failed : (stop : Stop) → IsJudgedRefusal u.place stop (inside_of consts m given) →
       Failed stop (inner_scope consts m given (scope_of (names_in e) s) u (state_of e))
   unfolding inner_scope
-  inside_failed stop h = record { told = λ r is. rw (h.told r is, sym (h.here r is)) refl }
+  inside_failed stop h = record { agrees = λ r is. rw (h.agrees r is, sym (h.here r is)) refl }
 
   module _ (inside : Inside) (inside_is : inside_of consts m given ≡ Ok inside) where
     pub wires_of_failed : (stop : Stop) → Failed stop (wires_of (scope_of (names_in e) s) u (state_of e)) →
         Failed stop (inner_scope consts m given (scope_of (names_in e) s) u (state_of e))
     unfolding inner_scope
-    wires_of_failed stop h = record { told = λ r is. rw (inside_is, h.told r is) refl }
+    wires_of_failed stop h = record { agrees = λ r is. rw (inside_is, h.agrees r is) refl }
 
     module _ (f : Expansion) (w : numbered_wires.Wires) (g : GivesWires e f w (wires_of (scope_of (names_in e) s) u (state_of e))) where
       pub formals_failed : (stop : Stop) → IsJudgedRefusal u.place stop (bound_formals_ref inside w) →
           Failed stop (inner_scope consts m given (scope_of (names_in e) s) u (state_of e))
       unfolding inner_scope
       formals_failed stop h = record {
-        told = λ r is. rw (
+        agrees = λ r is. rw (
           inside_is,
           g.is,
           bound_scope_map (names_in f) (inner_path (scope_of (names_in e) s) u.label) inside w,
-          h.told r is,
+          h.agrees r is,
           sym (h.here r is),
         ) refl;
       }

@@ -67,7 +67,7 @@ module _ (known : List Binding) (cs : List Assign) (places : List Place)
       GoneOn known (drop i cs) (drop i places) want →
       (s : State) → Failed stop (want s)
   consts_failed stop h w = λ s. record {
-    told = λ r is. sym (w s) ∙ split s ∙ rw (h.told r is, sym (h.here r is)) refl;
+    agrees = λ r is. sym (w s) ∙ split s ∙ rw (h.agrees r is, sym (h.here r is)) refl;
   }
 
 pub consts_all : (known : List Binding) (cs : List Assign) (places : List Place)

@@ -171,8 +171,8 @@ module _ (e : Expansion) (s : numbered_scope.Scope) (name : SignalName) (ends : 
     exist = formal_term_are (BitExists (nets_in e)) f.numbers f.bits h name.spec ends bits j;
   }
   bound_term f (Err stop) h j = record {
-    told = λ r is.
-        let kind = j.told r is in
+    agrees = λ r is.
+        let kind = j.agrees r is in
         let place_is = j.here r is in
         rw (formal_term_map (bit_of (names_in e)) f.numbers f.bits name.spec ends, kind, sym place_is) refl;
   }

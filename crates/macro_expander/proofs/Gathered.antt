@@ -85,16 +85,16 @@ module _ {X : Type 0} (step : X → State → Outcome (List Bit)) (start : Expan
       let next : gathered step (map (bit_of (names_in f)) (bits ++ more)) others (state_of f) ≡ gathered step (map (bit_of (names_in e)) bits) rest (state_of e) =
       rw (map-append (bit_of (names_in f)) bits more, bits_stay e f bits g.grows w.exist, split, g.is) refl in
       record {
-        told = next ∙ w.told;
+        agrees = next ∙ w.agrees;
         grows = grows_trans start e f w.grows g.grows;
         exist = All-append (BitExists (nets_in f)) bits more (bits_exist_stay (nets_in e) (nets_in f) bits (nets_more e f g.grows) w.exist) g.exist;
       }
 
   pub gathered_failed : (stop : Stop) → Failed stop (step x (state_of e)) → Gathered step start want rest bits e → Failed stop want
   gathered_failed stop g w = record {
-    told = λ r s.
-        let failed : gathered step (map (bit_of (names_in e)) bits) rest (state_of e) ≡ Fails r.kind r.place = rw (split, g.told r s) refl in
-        sym w.told ∙ failed;
+    agrees = λ r s.
+        let failed : gathered step (map (bit_of (names_in e)) bits) rest (state_of e) ≡ Fails r.kind r.place = rw (split, g.agrees r s) refl in
+        sym w.agrees ∙ failed;
   }
 
 -- ---- loops that gather connections
@@ -107,20 +107,20 @@ module _ {X : Type 0} (step : X → State → Outcome (List Joined)) (start : Ex
       let next : gathered step (map (joined_of (names_in f)) (cs ++ c ∷ [])) others (state_of f) ≡ gathered step (map (joined_of (names_in e)) cs) rest (state_of e) =
       rw (map-append (joined_of (names_in f)) cs (c ∷ []), joined_stays e f cs g.grows w.exist, split, g.is) refl in
       record {
-        told = next ∙ w.told;
+        agrees = next ∙ w.agrees;
         grows = grows_trans start e f w.grows g.grows;
         exist = All-append (JoinedExists (nets_in f)) cs (c ∷ []) (joined_exist_stay e f cs g.grows w.exist) (All-cons (JoinedExists (nets_in f)) c [] g.exists (All-nil (JoinedExists (nets_in f))));
       }
 
   pub joined_failed : (stop : Stop) → Failed stop (step x (state_of e)) → GatheredJoined step start want rest cs e → Failed stop want
   joined_failed stop g w = record {
-    told = λ r s.
-        let failed : gathered step (map (joined_of (names_in e)) cs) rest (state_of e) ≡ Fails r.kind r.place = rw (split, g.told r s) refl in
-        sym w.told ∙ failed;
+    agrees = λ r s.
+        let failed : gathered step (map (joined_of (names_in e)) cs) rest (state_of e) ≡ Fails r.kind r.place = rw (split, g.agrees r s) refl in
+        sym w.agrees ∙ failed;
   }
 
 pub joined_none : {X : Type 0} (step : X → State → Outcome (List Joined)) (e : Expansion) (xs : List X) → GatheredJoined step e (gathered step [] xs (state_of e)) xs [] e
-joined_none step e xs = record { told = refl; grows = grows_refl e; exist = All-nil (JoinedExists (nets_in e)) }
+joined_none step e xs = record { agrees = refl; grows = grows_refl e; exist = All-nil (JoinedExists (nets_in e)) }
 
 -- ---- loops that only go on
 
@@ -128,20 +128,20 @@ module _ {X : Type 0} (step : X → State → Outcome (Unit {0})) (start : Expan
   pub went_more : (f : Expansion) → GivesDone e f (step x (state_of e)) → Went step start want rest e → Went step start want others f
   went_more f g w =
       let next : each step others (state_of f) ≡ each step rest (state_of e) = rw (split, g.is) refl in
-      record { told = next ∙ w.told; grows = grows_trans start e f w.grows g.grows }
+      record { agrees = next ∙ w.agrees; grows = grows_trans start e f w.grows g.grows }
 
   pub went_failed : (stop : Stop) → Failed stop (step x (state_of e)) → Went step start want rest e → Failed stop want
   went_failed stop g w = record {
-    told = λ r s.
-        let failed : each step rest (state_of e) ≡ Fails r.kind r.place = rw (split, g.told r s) refl in
-        sym w.told ∙ failed;
+    agrees = λ r s.
+        let failed : each step rest (state_of e) ≡ Fails r.kind r.place = rw (split, g.agrees r s) refl in
+        sym w.agrees ∙ failed;
   }
 
 pub went_all : {X : Type 0} (step : X → State → Outcome (Unit {0})) (start : Expansion) (want : Outcome (Unit {0})) (rest : List X) (e : Expansion) →
     rest ≡ [] → Went step start want rest e → GivesDone start e want
 went_all step start want rest e none w =
     let done : each step rest (state_of e) ≡ Gives tt (state_of e) = rw none refl in
-    record { is = sym w.told ∙ done; grows = w.grows }
+    record { is = sym w.agrees ∙ done; grows = w.grows }
 
 -- ---- complemented terms
 

@@ -159,9 +159,9 @@ module _ (e : Expansion) (text : List ℕ) (bit : ℕ) (spec : AssertSpec) (plac
   net_fails _ h = absurd h
 
   pub net_refused : (stop : Stop) → IsNetRefusal e.builder the_name spec place stop → Failed stop (net_bit text spec place bit (state_of e))
-  net_refused NoMemory h = record { told = λ r is. absurd (cc) }
+  net_refused NoMemory h = record { agrees = λ r is. absurd (cc) }
   net_refused (Refused at) h = record {
-    told = λ r is.
+    agrees = λ r is.
         let same : at ≡ r = cc in
         subst (λ (x : Refusal). net_bit text spec place bit (state_of e) ≡ Fails x.kind x.place) same
         (subst (λ (p : Place). net_bit text spec place bit (state_of e) ≡ Fails at.kind p) (sym h.0) (net_fails at.kind h.1));

@@ -34,7 +34,7 @@ use Rattle.macro_expander.proofs.PinOrder.{in_pin_order_map, in_pin_order_are, j
 
 pub done_later : (d e f : Expansion) (r : Result (Unit {0}) Stop) (o o' : Outcome (Unit {0})) → Grows d e → o' ≡ o → DoneAt e f r o → DoneAt d f r o'
 done_later d e f (Ok done) o o' g is h = record { is = is ∙ h.is; grows = grows_trans d e f g h.grows }
-done_later d e f (Err stop) o o' g is h = record { told = λ r s. is ∙ h.told r s }
+done_later d e f (Err stop) o o' g is h = record { agrees = λ r s. is ∙ h.agrees r s }
 
 -- ---- widths
 
@@ -59,12 +59,12 @@ module _ (e : Expansion) (setting : Setting) (kind : Kind) (s : numbered_scope.S
 
   pub use_refused : (stop : Stop) → IsJudgedRefusal u.place stop (plan_of setting.ticks kind s.env (use_of u)) → Failed stop the_use
   unfolding primitive_use
-  use_refused stop h = record { told = λ r is. rw (h.told r is, h.here r is) refl }
+  use_refused stop h = record { agrees = λ r is. rw (h.agrees r is, h.here r is) refl }
 
   module _ (plan : Plan) (was : plan_of setting.ticks kind s.env (use_of u) ≡ Ok plan) where
     pub use_cut : (stop : Stop) → Failed stop (wires_of (scope_of (names_in e) s) (use_of u) (state_of e)) → Failed stop the_use
     unfolding primitive_use
-    use_cut stop h = record { told = λ r is. rw (was, h.told r is) refl }
+    use_cut stop h = record { agrees = λ r is. rw (was, h.agrees r is) refl }
 
     module _ (e1 : Expansion) (w : numbered_wires.Wires) (g : GivesWires e e1 w (wires_of (scope_of (names_in e) s) (use_of u) (state_of e))) (i o i2 : List numbered_joined.Joined) (n : ℕ)
         (i_is : i ≡ w.ins) (o_is : o ≡ w.outs) (i2_is : i2 ≡ w.ins) (n_is : n ≡ width_of kind (map bits_in i) (map bits_in o)) where
@@ -126,7 +126,7 @@ module _ (e : Expansion) (setting : Setting) (kind : Kind) (s : numbered_scope.S
 pub failed_so : {A : Type 0} (stop : Stop) (o : Outcome A) (kind : RefusalKind) (place : Place) →
     stop ≡ Refused (record { kind = kind; place = place }) → o ≡ Fails kind place → Failed stop o
 failed_so stop o kind place is h = record {
-  told = λ r s.
+  agrees = λ r s.
       let made : Refusal = record { kind = kind; place = place } in
       let same : made ≡ r = cc in
       subst (λ (x : Refusal). o ≡ Fails x.kind x.place) same h;

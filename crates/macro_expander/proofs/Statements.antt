@@ -48,15 +48,15 @@ module _ (setting : Setting) (below : Option (Macro → Act)) (scope : Scope) wh
           WentThrough act start want (drop i all) e → WentThrough act start want (drop (i + 1) all) f
       through_more f g w =
           let next : act (statements_of (drop (i + 1) all)) (state_of f) ≡ act (statements_of (drop i all)) (state_of e) = rw (split, g.is) refl in
-          record { told = next ∙ w.told; grows = grows_trans start e f w.grows g.grows }
+          record { agrees = next ∙ w.agrees; grows = grows_trans start e f w.grows g.grows }
 
       pub through_failed : (stop : Stop) →
           Failed stop (statement_act setting below (statement_of x) scope (state_of e)) →
           WentThrough act start want (drop i all) e → Failed stop want
       through_failed stop g w = record {
-        told = λ r s.
-            let failed : act (statements_of (drop i all)) (state_of e) ≡ Fails r.kind r.place = rw (split, g.told r s) refl in
-            sym w.told ∙ failed;
+        agrees = λ r s.
+            let failed : act (statements_of (drop i all)) (state_of e) ≡ Fails r.kind r.place = rw (split, g.agrees r s) refl in
+            sym w.agrees ∙ failed;
       }
 
 -- ---- uses
@@ -109,7 +109,7 @@ module _ (setting : Setting) (levels : ℕ) (e : Expansion) (s : numbered_scope.
 
     module _ (deep : levels ≢ 0) where
       pub macro_cut : (stop : Stop) → Failed stop (inner_scope setting.consts m given (scope_of (names_in e) s) u (state_of e)) → Failed stop the_use
-      macro_cut stop h = record { told = λ r is. rw (was, body_below setting levels deep, h.told r is) refl }
+      macro_cut stop h = record { agrees = λ r is. rw (was, body_below setting levels deep, h.agrees r is) refl }
 
       pub macro_done : (e1 e2 : Expansion) (inner : numbered_scope.Scope) (r : Result (Unit {0}) Stop) →
           GivesScope e e1 inner (inner_scope setting.consts m given (scope_of (names_in e) s) u (state_of e)) →

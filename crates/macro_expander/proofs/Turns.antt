@@ -75,14 +75,14 @@ module _ (setting : Setting) (below : Option (Macro → Act)) (loop : ForStmt) (
 
   pub for_refused : (stop : Stop) → IsJudgedRefusal loop.place stop (ends_in scope loop) →
       Failed stop the_for
-  for_refused stop h = record { told = λ r is. for_is ∙ rw (h.told r is, sym (h.here r is)) refl }
+  for_refused stop h = record { agrees = λ r is. for_is ∙ rw (h.agrees r is, sym (h.here r is)) refl }
 
   module _ (a b : ℤ) (are : ends_in scope loop ≡ Ok (a, b)) where
     pub for_none : b <ℤ a → GivesDone e e the_for
     for_none h = record { is = for_is ∙ rw (are, values_none a b h) refl; grows = grows_refl e }
 
     pub turns_begun : WentTurns (one_turn setting below loop scope) e the_for a b e
-    turns_begun = record { told = sym (for_is ∙ rw are refl); grows = grows_refl e }
+    turns_begun = record { agrees = sym (for_is ∙ rw are refl); grows = grows_refl e }
 
 -- ---- value by value
 
@@ -97,21 +97,21 @@ module _ (step : ℤ → State → Outcome (Unit {0})) (start : Expansion) (want
   turns_more v f h g w =
       let next : from (v +ℤ pos 1) (state_of f) ≡ from v (state_of e) =
       rw (values_more v last h, g.is) refl in
-      record { told = next ∙ w.told; grows = grows_trans start e f w.grows g.grows }
+      record { agrees = next ∙ w.agrees; grows = grows_trans start e f w.grows g.grows }
 
   pub turns_failed : (v : ℤ) (stop : Stop) → v <ℤ last → Failed stop (step v (state_of e)) →
       WentTurns step start want v last e → Failed stop want
   turns_failed v stop h g w = record {
-    told = λ r is.
+    agrees = λ r is.
         let failed : from v (state_of e) ≡ Fails r.kind r.place =
-        rw (values_more v last h, g.told r is) refl in
-        sym w.told ∙ failed;
+        rw (values_more v last h, g.agrees r is) refl in
+        sym w.agrees ∙ failed;
   }
 
   alone : (v : ℤ) (r : Result (Unit {0}) Stop) (f : Expansion) →
       DoneAt e f r (step v (state_of e)) → DoneAt e f r (each step (v ∷ []) (state_of e))
   alone v (Ok done) f g = record { is = rw g.is refl; grows = g.grows }
-  alone v (Err stop) f g = record { told = λ r is. rw (g.told r is) refl }
+  alone v (Err stop) f g = record { agrees = λ r is. rw (g.agrees r is) refl }
 
   -- the last value is all that is left
   pub turns_done : (v : ℤ) (r : Result (Unit {0}) Stop) (f : Expansion) → v ≡ last →
@@ -120,7 +120,7 @@ module _ (step : ℤ → State → Outcome (Unit {0})) (start : Expansion) (want
       let one : values_between v last ≡ v ∷ [] = rw same (values_one last) in
       let only : from v (state_of e) ≡ each step (v ∷ []) (state_of e) =
       ap (λ (vs : List ℤ). each step vs (state_of e)) one in
-      done_later start e f r (each step (v ∷ []) (state_of e)) want w.grows (sym w.told ∙ only)
+      done_later start e f r (each step (v ∷ []) (state_of e)) want w.grows (sym w.agrees ∙ only)
       (alone v r f g)
 
 -- ---- counted

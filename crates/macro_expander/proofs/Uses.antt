@@ -29,4 +29,4 @@ module _ (e e1 : Expansion) (s : numbered_scope.Scope) (u : UseStatement) (ins :
   unfolding wires_of
   wires_failed stop h =
       let same = subst (λ (z : Scope). Failed stop (all_joined z u.place u.outs (state_of e1))) (scope_stays e e1 s g.grows exists) h in
-      record { told = λ r is. rw (g.is, same.told r is) refl }
+      record { agrees = λ r is. rw (g.is, same.agrees r is) refl }

@@ -97,7 +97,7 @@ finished d e is built (Err stop) h = rule_stops d e is built stop h
 
 pub expansion_stops : (d : Drawing) (stop : Stop) → Failed stop (flat d) → IsStopOf d stop
 expansion_stops d NoMemory h = tt
-expansion_stops d (Refused r) h = inl (h.told r refl)
+expansion_stops d (Refused r) h = inl (h.agrees r refl)
 
 -- ---- the beginning
 
@@ -110,7 +110,7 @@ top_is is same = rw (is, same) refl
 pub consts_stop : (d : written_drawing.Drawing) (stop : Stop) →
     ((s : State) → Failed stop (const_values [] (map assignment_of d.consts) d.const_places s)) → IsStopOf (drawing_of d) stop
 unfolding flat
-consts_stop d stop h = expansion_stops (drawing_of d) stop (record { told = λ r is. rw ((h (nothing_yet d.header)).told r is) refl })
+consts_stop d stop h = expansion_stops (drawing_of d) stop (record { agrees = λ r is. rw ((h (nothing_yet d.header)).agrees r is) refl })
 
 module _ (d : written_drawing.Drawing) (ticks : ℕ) (l : Library) (ticks_are : ticks ≡ period d.header) (consts : List Binding)
     (consts_are : (s : State) → const_values [] (map assignment_of d.consts) d.const_places s ≡ Gives consts s)

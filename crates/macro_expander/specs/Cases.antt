@@ -40,37 +40,43 @@ is_clock (Stable spans) = false
 abbrev pub is_set : List CaseBit → Name → Bool
 is_set bits name = list_any (λ b. same_name name b.name) bits
 
--- The entry's name has no assertion, its net is there, undriven and no asserted clock, the case has not named it before,
--- and its value is a bit.
+-- The entry's name has no assertion, its net is there, undriven and no asserted clock, the case has
+-- not named it before, and its value is a bit.
 abbrev pub may_set : State → List CaseBit → CaseEntry → Bool
 may_set s before e =
     (not (is_asserted e.name.spec) && has_name s.names (entry_name e))
-    && ((not (is_driven s (entry_name e)) && not (is_clock (spec_of s.asserted (entry_name e).text)))
+    && ((not (is_driven s (entry_name e))
+    && not (is_clock (spec_of s.asserted (entry_name e).text)))
     && (not (is_set before (entry_name e)) && nat_le e.value 1))
 
 abbrev pub entry_bit : CaseEntry → CaseBit
 entry_bit e = record { name = entry_name e; one = e.value == 1 }
 
--- the nets that a case sets, after those of its entries so far, or the refusal of its first bad entry
+-- the nets that a case sets, after those of its entries so far, or the refusal of its first bad
+-- entry
 abbrev pub case_bits : State → List CaseBit → List CaseEntry → Result (List CaseBit) Refusal
 case_bits s before [] = Ok before
 case_bits s before (e ∷ es) =
     if may_set s before e then case_bits s (before ++ entry_bit e ∷ []) es
     else Err (record { kind = CaseNet; place = e.place })
 
-abbrev pub with_case : Result (List CaseBit) Refusal → (List CaseBit → Result (List (List CaseBit)) Refusal) → Result (List (List CaseBit)) Refusal
+abbrev pub with_case : Result (List CaseBit) Refusal →
+    (List CaseBit → Result (List (List CaseBit)) Refusal) → Result (List (List CaseBit)) Refusal
 with_case (Ok bits) next = next bits
 with_case (Err r) next = Err r
 
-abbrev pub cases_behind : State → List (List CaseBit) → List CaseStmt → Result (List (List CaseBit)) Refusal
+abbrev pub cases_behind : State → List (List CaseBit) → List CaseStmt →
+    Result (List (List CaseBit)) Refusal
 cases_behind s before [] = Ok before
-cases_behind s before (c ∷ cs) = with_case (case_bits s [] c.entries) (λ bits. cases_behind s (before ++ bits ∷ []) cs)
+cases_behind s before (c ∷ cs) =
+    with_case (case_bits s [] c.entries) (λ bits. cases_behind s (before ++ bits ∷ []) cs)
 
 abbrev pub most_cases : ℕ
 most_cases = 256
 
 -- one case too many is refused before any entry is looked at
-abbrev pub unless_many : Option CaseStmt → Result (List (List CaseBit)) Refusal → Result (List (List CaseBit)) Refusal
+abbrev pub unless_many : Option CaseStmt → Result (List (List CaseBit)) Refusal →
+    Result (List (List CaseBit)) Refusal
 unless_many (Some c) cases = Err (record { kind = TooMany; place = c.place })
 unless_many None cases = cases
 

@@ -26,7 +26,8 @@ Act = Scope → State → Outcome (Unit {0})
 
 -- the bounds of one net's wire are set
 abbrev pub set_wire : List Name → List Bounds → Name → Bounds → List Bounds
-set_wire (n ∷ ns) (w ∷ ws) name wire = if same_name name n then wire ∷ ws else w ∷ set_wire ns ws name wire
+set_wire (n ∷ ns) (w ∷ ws) name wire =
+    if same_name name n then wire ∷ ws else w ∷ set_wire ns ws name wire
 set_wire _ ws name wire = ws
 
 -- a constant keeps its wire without delay
@@ -75,7 +76,9 @@ most_statements = 262144
 
 -- a statement counts before anything else of it
 abbrev pub counted : Place → Act → Act
-counted place act scope s = if nat_lt s.statements most_statements then act scope (record s { statements = s.statements + 1 }) else Fails TooMany place
+counted place act scope s =
+    if nat_lt s.statements most_statements
+    then act scope (record s { statements = s.statements + 1 }) else Fails TooMany place
 
 abbrev pub is_zero : ℤ → Bool
 is_zero (pos n) = nat_lt n 1
@@ -133,7 +136,15 @@ abbrev pub top : List Binding → Scope
 top consts = record { path = []; suffix = []; env = consts; formals = [] }
 
 abbrev pub nothing_yet : Header → State
-nothing_yet header = record { header = header; statements = 0; names = []; wires = []; asserted = []; instances = [] }
+nothing_yet header =
+    record {
+      header = header;
+      statements = 0;
+      names = [];
+      wires = [];
+      asserted = [];
+      instances = [];
+    }
 
 abbrev pub setting_of : Drawing → List Binding → Setting
 setting_of d consts = record {

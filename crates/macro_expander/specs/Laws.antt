@@ -19,4 +19,5 @@ StopsAtPlaces = (d : Drawing) (r : Refusal) → IsStopOf d (Refused r) → IsPla
 
 -- So it does where its cases are refused.
 abbrev pub CasesStopAtPlaces : Type 0
-CasesStopAtPlaces = (d : Drawing) (s : State) (r : Refusal) → cases_of s d ≡ Err r → IsPlaceIn d r.place
+CasesStopAtPlaces =
+    (d : Drawing) (s : State) (r : Refusal) → cases_of s d ≡ Err r → IsPlaceIn d r.place

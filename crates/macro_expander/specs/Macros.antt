@@ -19,7 +19,9 @@ macro_of name macros = find (λ m. bytes_eq m.name name) macros
 
 -- a connection for each formal, and no marks
 abbrev pub fits_formals : Macro → UseStatement → Bool
-fits_formals m u = ((length u.ins == length m.ins) && (length u.outs == length m.outs)) && ((marks u.ins == 0) && (marks u.outs == 0))
+fits_formals m u =
+    ((length u.ins == length m.ins) && (length u.outs == length m.outs))
+    && ((marks u.ins == 0) && (marks u.outs == 0))
 
 abbrev pub has_parameter : Macro → List ℕ → Bool
 has_parameter m name = list_any (assigns name) m.params
@@ -77,7 +79,8 @@ repeated _ n = None
 abbrev pub widened : {B : Type 0} → List B → ℕ → Option (List B)
 widened bits n = if length bits == n then Some bits else repeated bits n
 
--- An input has its formal's width, or one bit that is spread over it; an output has exactly its formal's width.
+-- An input has its formal's width, or one bit that is spread over it; an output has exactly its
+-- formal's width.
 abbrev pub input_bits : {B : Type 0} → Shape → List B → Judged (List B)
 input_bits shape bits = or_refuse (widened bits (length shape.numbers)) Width
 

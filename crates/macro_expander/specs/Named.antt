@@ -35,8 +35,9 @@ pub record NamedInstance : Type 0 where
   pub out_inverted : Bool
   pub place : Place
 
--- What is expanded so far: the statements that were reached, the nets in the order of their first use and the bounds of
--- their wires in the same order, what is asserted of them, and the instance and checker bits.
+-- What is expanded so far: the statements that were reached, the nets in the order of their first
+-- use and the bounds of their wires in the same order, what is asserted of them, and the instance
+-- and checker bits.
 pub record State : Type 0 where
   pub header : Header
   pub statements : ℕ

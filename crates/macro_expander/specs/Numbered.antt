@@ -1,4 +1,5 @@
--- What the numbers of nets stand for while a circuit is expanded, and what it is to take a step by them.
+-- What the numbers of nets stand for while a circuit is expanded, and what it is to take a step by
+-- them.
 use Rattle.std.specs.Prelude.{◌≡◌, ℕ, ◌<◌, ◌≤◌, Bool, true, false, not, if◌then◌else◌, List, [], ◌∷◌, ◌++◌, length, map, nat_le, Option, Some, None, Result, Ok, Err}
 use Rattle.std.specs.List.{All, flat_map, zip}
 use Rattle.scald_base.specs.declared.refusal.Refusal.{Refusal}
@@ -97,7 +98,8 @@ abbrev pub inverted_ref : Option BitRef → Bool
 inverted_ref None = false
 inverted_ref (Some b) = b.inverted
 
-abbrev pub instance_ref : List ℕ → UseStmt → Kind → Plan → List numbered_joined.Joined → List numbered_joined.Joined → ℕ → Instance
+abbrev pub instance_ref : List ℕ → UseStmt → Kind → Plan → List numbered_joined.Joined →
+    List numbered_joined.Joined → ℕ → Instance
 instance_ref path u kind plan ins outs k = record {
   path = path;
   bit = k;
@@ -154,7 +156,8 @@ abbrev pub input_bound_ref : Shape × numbered_joined.Joined → Judged numbered
 input_bound_ref pair = judging (input_bits pair.0 pair.1.bits) (λ bits. Ok (bound_ref pair.0 bits))
 
 abbrev pub output_bound_ref : Shape × numbered_joined.Joined → Judged numbered_bound.Bound
-output_bound_ref pair = judging (output_bits pair.0 pair.1.bits) (λ bits. Ok (bound_ref pair.0 bits))
+output_bound_ref pair =
+    judging (output_bits pair.0 pair.1.bits) (λ bits. Ok (bound_ref pair.0 bits))
 
 -- the formals of a macro, the inputs' and then the outputs', bound to the connections of a use
 abbrev pub bound_formals_ref : Inside → numbered_wires.Wires → Judged (List numbered_bound.Bound)
@@ -193,9 +196,10 @@ pub record Grows (old new : Expansion) : Type 0 where
 
 -- the refusal of a step, or want of memory
 pub record Failed {A : Type 0} (stop : Stop) (o : Outcome A) : Type 0 where
-  pub told : (r : Refusal) → stop ≡ Refused r → o ≡ Fails r.kind r.place
+  pub agrees : (r : Refusal) → stop ≡ Refused r → o ≡ Fails r.kind r.place
 
-pub record GivesBits (old new : Expansion) (bits : List BitRef) (o : Outcome (List Bit)) : Type 0 where
+pub record GivesBits (old new : Expansion) (bits : List BitRef)
+    (o : Outcome (List Bit)) : Type 0 where
   pub is : o ≡ Gives (map (bit_of (names_in new)) bits) (state_of new)
   pub grows : Grows old new
   pub exist : All (BitExists (nets_in new)) bits
@@ -213,14 +217,15 @@ BitAt old new (Err stop) o = Failed stop o
 abbrev pub kept_with : {B : Type 0} → List B → List B → List B
 kept_with kept more = if nat_le (length kept) widest then kept ++ more else kept
 
--- What is kept of all bits: all, where they are no more than a connection may have, and else more than
--- that.
+-- What is kept of all bits: all, where they are no more than a connection may have, and else more
+-- than that.
 pub record Keeps {B : Type 0} (kept all : List B) : Type 0 where
   pub narrow : length kept ≤ widest → kept ≡ all
   pub wide : widest < length kept → widest < length all
 
 -- all bits, of which these are kept
-pub record GivesFront (old new : Expansion) (kept : List BitRef) (o : Outcome (List Bit)) : Type 0 where
+pub record GivesFront (old new : Expansion) (kept : List BitRef)
+    (o : Outcome (List Bit)) : Type 0 where
   pub all : List BitRef
   pub keeps : Keeps kept all
   pub gives : GivesBits old new all o
@@ -229,43 +234,52 @@ abbrev pub FrontAt : Expansion → Expansion → Result (List BitRef) Stop → O
 FrontAt old new (Ok kept) o = GivesFront old new kept o
 FrontAt old new (Err stop) o = Failed stop o
 
-pub record GivesJoined (old new : Expansion) (c : numbered_joined.Joined) (o : Outcome (List Joined)) : Type 0 where
+pub record GivesJoined (old new : Expansion) (c : numbered_joined.Joined)
+    (o : Outcome (List Joined)) : Type 0 where
   pub is : o ≡ Gives (joined_of (names_in new) c ∷ []) (state_of new)
   pub grows : Grows old new
   pub exists : JoinedExists (nets_in new) c
 
-abbrev pub JoinedAt : Expansion → Expansion → Result numbered_joined.Joined Stop → Outcome (List Joined) → Type 0
+abbrev pub JoinedAt : Expansion → Expansion → Result numbered_joined.Joined Stop →
+    Outcome (List Joined) → Type 0
 JoinedAt old new (Ok c) o = GivesJoined old new c o
 JoinedAt old new (Err stop) o = Failed stop o
 
-pub record GivesAllJoined (old new : Expansion) (cs : List numbered_joined.Joined) (o : Outcome (List Joined)) : Type 0 where
+pub record GivesAllJoined (old new : Expansion) (cs : List numbered_joined.Joined)
+    (o : Outcome (List Joined)) : Type 0 where
   pub is : o ≡ Gives (map (joined_of (names_in new)) cs) (state_of new)
   pub grows : Grows old new
   pub exist : All (JoinedExists (nets_in new)) cs
 
-abbrev pub AllJoinedAt : Expansion → Expansion → Result (List numbered_joined.Joined) Stop → Outcome (List Joined) → Type 0
+abbrev pub AllJoinedAt : Expansion → Expansion → Result (List numbered_joined.Joined) Stop →
+    Outcome (List Joined) → Type 0
 AllJoinedAt old new (Ok cs) o = GivesAllJoined old new cs o
 AllJoinedAt old new (Err stop) o = Failed stop o
 
 abbrev pub named_wires : List Name → numbered_wires.Wires → Wires
-named_wires names w = record { ins = map (joined_of names) w.ins; outs = map (joined_of names) w.outs }
+named_wires names w =
+    record { ins = map (joined_of names) w.ins; outs = map (joined_of names) w.outs }
 
-pub record GivesWires (old new : Expansion) (w : numbered_wires.Wires) (o : Outcome Wires) : Type 0 where
+pub record GivesWires (old new : Expansion) (w : numbered_wires.Wires)
+    (o : Outcome Wires) : Type 0 where
   pub is : o ≡ Gives (named_wires (names_in new) w) (state_of new)
   pub grows : Grows old new
   pub ins : All (JoinedExists (nets_in new)) w.ins
   pub outs : All (JoinedExists (nets_in new)) w.outs
 
-abbrev pub WiresAt : Expansion → Expansion → Result numbered_wires.Wires Stop → Outcome Wires → Type 0
+abbrev pub WiresAt : Expansion → Expansion → Result numbered_wires.Wires Stop → Outcome Wires →
+    Type 0
 WiresAt old new (Ok w) o = GivesWires old new w o
 WiresAt old new (Err stop) o = Failed stop o
 
-pub record GivesScope (old new : Expansion) (s : numbered_scope.Scope) (o : Outcome Scope) : Type 0 where
+pub record GivesScope (old new : Expansion) (s : numbered_scope.Scope)
+    (o : Outcome Scope) : Type 0 where
   pub is : o ≡ Gives (scope_of (names_in new) s) (state_of new)
   pub grows : Grows old new
   pub exists : ScopeExists (nets_in new) s
 
-abbrev pub ScopeAt : Expansion → Expansion → Result numbered_scope.Scope Stop → Outcome Scope → Type 0
+abbrev pub ScopeAt : Expansion → Expansion → Result numbered_scope.Scope Stop → Outcome Scope →
+    Type 0
 ScopeAt old new (Ok s) o = GivesScope old new s o
 ScopeAt old new (Err stop) o = Failed stop o
 
@@ -292,37 +306,43 @@ pub record Wired (old new : Expansion) (s : State) : Type 0 where
 -- ---- loops
 
 -- What is left gives, after the bits so far, what the whole gives.
-pub record Gathered {X : Type 0} (step : X → State → Outcome (List Bit)) (start : Expansion) (want : Outcome (List Bit)) (rest : List X) (bits : List BitRef) (e : Expansion) : Type 0 where
-  pub told : gathered step (map (bit_of (names_in e)) bits) rest (state_of e) ≡ want
+pub record Gathered {X : Type 0} (step : X → State → Outcome (List Bit)) (start : Expansion)
+    (want : Outcome (List Bit)) (rest : List X) (bits : List BitRef) (e : Expansion) : Type 0 where
+  pub agrees : gathered step (map (bit_of (names_in e)) bits) rest (state_of e) ≡ want
   pub grows : Grows start e
   pub exist : All (BitExists (nets_in e)) bits
 
 -- The same, where of the bits so far only more than a connection may have are kept.
-pub record GatheredFront {X : Type 0} (step : X → State → Outcome (List Bit)) (start : Expansion) (want : Outcome (List Bit)) (rest : List X) (kept : List BitRef) (e : Expansion) : Type 0 where
+pub record GatheredFront {X : Type 0} (step : X → State → Outcome (List Bit)) (start : Expansion)
+    (want : Outcome (List Bit)) (rest : List X) (kept : List BitRef) (e : Expansion) : Type 0 where
   pub all : List BitRef
   pub keeps : Keeps kept all
   pub gathered : Gathered step start want rest all e
 
 -- the same, of connections
-pub record GatheredJoined {X : Type 0} (step : X → State → Outcome (List Joined)) (start : Expansion)
-    (want : Outcome (List Joined)) (rest : List X) (cs : List numbered_joined.Joined) (e : Expansion) : Type 0 where
-  pub told : gathered step (map (joined_of (names_in e)) cs) rest (state_of e) ≡ want
+pub record GatheredJoined {X : Type 0} (step : X → State → Outcome (List Joined))
+    (start : Expansion)
+    (want : Outcome (List Joined)) (rest : List X) (cs : List numbered_joined.Joined)
+    (e : Expansion) : Type 0 where
+  pub agrees : gathered step (map (joined_of (names_in e)) cs) rest (state_of e) ≡ want
   pub grows : Grows start e
   pub exist : All (JoinedExists (nets_in e)) cs
 
 -- What is left does what the whole does.
-pub record Went {X : Type 0} (step : X → State → Outcome (Unit {0})) (start : Expansion) (want : Outcome (Unit {0})) (rest : List X) (e : Expansion) : Type 0 where
-  pub told : each step rest (state_of e) ≡ want
+pub record Went {X : Type 0} (step : X → State → Outcome (Unit {0})) (start : Expansion)
+    (want : Outcome (Unit {0})) (rest : List X) (e : Expansion) : Type 0 where
+  pub agrees : each step rest (state_of e) ≡ want
   pub grows : Grows start e
 
 -- the same, where no net is new
-pub record WentOn {X : Type 0} (step : X → State → Outcome (Unit {0})) (start : Expansion) (want : Outcome (Unit {0})) (rest : List X) (e : Expansion) : Type 0 where
+pub record WentOn {X : Type 0} (step : X → State → Outcome (Unit {0})) (start : Expansion)
+    (want : Outcome (Unit {0})) (rest : List X) (e : Expansion) : Type 0 where
   pub went : Went step start want rest e
   pub same : SameNets start e
 
 -- what is left makes of the circuit so far what the whole makes
 pub record WiredSoFar (old new : Expansion) (rest whole : State) : Type 0 where
-  pub told : rest ≡ whole
+  pub agrees : rest ≡ whole
   pub names : names_in new ≡ names_in old
   pub header : new.builder.header ≡ old.builder.header
   pub statements : new.statements ≡ old.statements

@@ -1,4 +1,5 @@
--- What a step of expansion gives, and steps one after another: the first refusal is the refusal of all.
+-- What a step of expansion gives, and steps one after another: the first refusal is the refusal of
+-- all.
 use Rattle.std.specs.Prelude.{List, [], ◌∷◌, ◌++◌, Option, Some, None, Result, Ok, Err}
 use Rattle.scald_base.specs.declared.refusal.Place.{Place}
 use Rattle.scald_base.specs.declared.refusal.RefusalKind.{RefusalKind}
@@ -36,11 +37,13 @@ collected step ys [] = Ok ys
 collected step ys (x ∷ xs) = judging (step x) (λ y. collected step (ys ++ y ∷ []) xs)
 
 -- what each gives, in order, after what there is so far
-abbrev pub gathered : {X Y : Type 0} → (X → State → Outcome (List Y)) → List Y → List X → State → Outcome (List Y)
+abbrev pub gathered : {X Y : Type 0} → (X → State → Outcome (List Y)) → List Y → List X → State →
+    Outcome (List Y)
 gathered step ys [] s = Gives ys s
 gathered step ys (x ∷ xs) s = after (step x s) (λ more s'. gathered step (ys ++ more) xs s')
 
 -- each in order
-abbrev pub each : {X : Type 0} → (X → State → Outcome (Unit {0})) → List X → State → Outcome (Unit {0})
+abbrev pub each : {X : Type 0} → (X → State → Outcome (Unit {0})) → List X → State →
+    Outcome (Unit {0})
 each step [] s = Gives tt s
 each step (x ∷ xs) s = after (step x s) (λ _ s'. each step xs s')

@@ -58,7 +58,8 @@ assigns name a = bytes_eq a.name name
 -- each is one of the known, and none comes twice
 abbrev pub are_of : (List ℕ → Bool) → List Assignment → Bool
 are_of known [] = true
-are_of known (a ∷ rest) = known a.name && (not (list_any (assigns a.name) rest) && are_of known rest)
+are_of known (a ∷ rest) =
+    known a.name && (not (list_any (assigns a.name) rest) && are_of known rest)
 
 abbrev pub takes : Kind → List ℕ → Bool
 takes kind name = list_any (bytes_eq name) (parameters kind)
@@ -92,7 +93,8 @@ longest_split = 255
 -- 0 at most the least, the least at most the greatest, and that at most the longest
 abbrev pub delay_within : ℕ → ℤ → ℤ → Judged DelayBounds
 delay_within longest (pos min) (pos max) =
-    if nat_le min max && nat_le max longest then Ok (record { min = min; max = max }) else Err Bounds
+    if nat_le min max && nat_le max longest then Ok (record { min = min; max = max })
+    else Err Bounds
 delay_within longest (pos min) (negsuc max) = Err Bounds
 delay_within longest (negsuc min) max = Err Bounds
 
@@ -111,7 +113,8 @@ fall_of u = fall_beside u.delay u.fall
 -- the two expressions of a delay
 abbrev pub written_delay : List Binding → Option (Expression × Expression) → Judged (Option (ℤ × ℤ))
 written_delay env None = Ok None
-written_delay env (Some pair) = judging (valued env pair.0) (λ min. judging (valued env pair.1) (λ max. Ok (Some (min, max))))
+written_delay env (Some pair) =
+    judging (valued env pair.0) (λ min. judging (valued env pair.1) (λ max. Ok (Some (min, max))))
 
 -- the bounds of every delay of an instance bit, and its two delays where it has two
 abbrev pub Delays : Type 0
@@ -168,7 +171,8 @@ limits_of period kind given = limits_for period (check_of kind) given
 abbrev pub are_connected : Kind → UseStatement → Bool
 are_connected kind u =
     (nat_le (fewest_inputs kind) (length u.ins) && nat_le (length u.ins) (most_inputs kind))
-    && ((length u.outs == outputs kind) && (nat_le (marks u.ins) (most_marks kind) && (marks u.outs == 0)))
+    && ((length u.outs == outputs kind)
+    && (nat_le (marks u.ins) (most_marks kind) && (marks u.outs == 0)))
 
 abbrev pub same_truth : Bool → Bool → Bool
 same_truth a b = if a then b else not b
@@ -200,7 +204,8 @@ abbrev pub greatest : List ℕ → ℕ
 greatest [] = 0
 greatest (n ∷ ns) = max n (greatest ns)
 
--- The width of a primitive is that of its output, and a checker's is the greatest of its connections'.
+-- The width of a primitive is that of its output, and a checker's is the greatest of its
+-- connections'.
 abbrev pub width_of : Kind → List ℕ → List ℕ → ℕ
 width_of kind ins outs = if has_output kind then greatest outs else greatest ins
 
@@ -248,7 +253,8 @@ bits_at k ins = map (λ c. pin_of c.hold (bit_at no_bit c.bits k)) ins
 abbrev pub each_bit : List Joined → List NamedPin
 each_bit ins = flat_map (λ c. map (pin_of c.hold) c.bits) ins
 
--- Pin by pin: every bit of a change function's inputs, and of another kind's bit k of each connection.
+-- Pin by pin: every bit of a change function's inputs, and of another kind's bit k of each
+-- connection.
 abbrev pub pins_by : Bool → List Joined → ℕ → List NamedPin
 pins_by true ins k = each_bit ins
 pins_by false ins k = bits_at k ins
@@ -268,7 +274,8 @@ abbrev pub inverted_of : Option Bit → Bool
 inverted_of None = false
 inverted_of (Some b) = b.inverted
 
-abbrev pub instance_at : List ℕ → UseStatement → Kind → Plan → List Joined → List Joined → ℕ → NamedInstance
+abbrev pub instance_at : List ℕ → UseStatement → Kind → Plan → List Joined → List Joined → ℕ →
+    NamedInstance
 instance_at path u kind plan ins outs k = record {
   path = path;
   bit = k;
@@ -293,17 +300,22 @@ pin_count j = length j.pins
 
 -- instance bits with an output, checker bits and pins, each within its limit
 abbrev pub are_few : List NamedInstance → Bool
-are_few js = nat_le (count_by is_gate js) most_bits && (nat_le (count_by is_checker js) most_bits && nat_le (sum_by pin_count js) most_pins)
+are_few js =
+    nat_le (count_by is_gate js) most_bits
+    && (nat_le (count_by is_checker js) most_bits && nat_le (sum_by pin_count js) most_pins)
 
 abbrev pub with_instance : State → NamedInstance → State
 with_instance s j = record s { instances = s.instances ++ j ∷ [] }
 
 abbrev pub adding : NamedInstance → State → Outcome (Unit {0})
-adding j s = if are_few (s.instances ++ j ∷ []) then Gives tt (with_instance s j) else Fails TooMany j.place
+adding j s =
+    if are_few (s.instances ++ j ∷ []) then Gives tt (with_instance s j) else Fails TooMany j.place
 
 -- the bits of a use, from bit 0 on
-unfoldable pub all_added : List ℕ → UseStatement → Kind → Plan → ℕ → List Joined → List Joined → State → Outcome (Unit {0})
-all_added path u kind plan n ins outs s = each (λ k. adding (instance_at path u kind plan ins outs k)) (range_with_len 0 n) s
+unfoldable pub all_added : List ℕ → UseStatement → Kind → Plan → ℕ → List Joined → List Joined →
+    State → Outcome (Unit {0})
+all_added path u kind plan n ins outs s =
+    each (λ k. adding (instance_at path u kind plan ins outs k)) (range_with_len 0 n) s
 
 abbrev pub width_in : Kind → Wires → ℕ
 width_in kind w = width_of kind (map width w.ins) (map width w.outs)

@@ -13,15 +13,16 @@ use Rattle.macro_expander.specs.Outcome.{Gives, Fails}
 use Rattle.macro_expander.specs.Flat.{flat}
 use Rattle.macro_expander.specs.Numbered.{instance_of, state_of}
 
--- The same header; exactly the same nets, each once, in the order of their first use; of each the assertion of its base
--- name and the bounds of its wire; and the same instance and checker bits in the same order, each pin and output on the
--- net of the same name or on the same constant. Drivers, readers and name order are those of these nets and instances,
--- as in every circuit.
+-- The same header; exactly the same nets, each once, in the order of their first use; of each the
+-- assertion of its base name and the bounds of its wire; and the same instance and checker bits in
+-- the same order, each pin and output on the net of the same name or on the same constant. Drivers,
+-- readers and name order are those of these nets and instances, as in every circuit.
 pub record Stands (s : State) (c : Circuit) : Type 0 where
   pub header : c.header ≡ s.header
   pub names : net_names c.nets ≡ s.names
   pub wires : map (λ (n : Net). n.wire) c.nets ≡ s.wires
-  pub assertions : map (λ (n : Net). n.spec) c.nets ≡ map (λ (n : Name). spec_of s.asserted n.text) s.names
+  pub assertions : map (λ (n : Net). n.spec) c.nets
+      ≡ map (λ (n : Name). spec_of s.asserted n.text) s.names
   pub instances : map (instance_of (net_names c.nets)) c.instances ≡ s.instances
 
 -- What a drawing's circuit is.

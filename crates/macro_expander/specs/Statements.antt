@@ -78,10 +78,12 @@ behind_else (else_ ss) = ss
 pub record Chooses (env : List Binding) (choice : IfStmt) (statements : List Stmt) : Type 0 where
   pub test : ℤ
   pub is_test : valued env (expression_of choice.test) ≡ Ok test
-  pub chosen : statements_of statements ≡ (if is_zero test then behind_else (else_of choice.no) else statements_of choice.yes.items)
+  pub chosen : statements_of statements
+      ≡ (if is_zero test then behind_else (else_of choice.no) else statements_of choice.yes.items)
 
 abbrev pub IsUnchosen : List Binding → IfStmt → Stop → Type 0
-IsUnchosen env choice stop = IsJudgedRefusal choice.place stop (valued env (expression_of choice.test))
+IsUnchosen env choice stop =
+    IsJudgedRefusal choice.place stop (valued env (expression_of choice.test))
 
 -- ---- repeated
 
@@ -106,10 +108,11 @@ pub record IsTurn (var : List ℕ) (around inner : numbered_scope.Scope) : Type 
 -- What the values that are left do is what the whole does.
 pub record WentTurns (act : ℤ → State → Outcome (Unit {0})) (start : Expansion)
     (want : Outcome (Unit {0})) (value last : ℤ) (e : Expansion) : Type 0 where
-  pub told : each act (values_between value last) (state_of e) ≡ want
+  pub agrees : each act (values_between value last) (state_of e) ≡ want
   pub grows : Grows start e
 
 -- What the statements that are left do is what the whole does.
-pub record WentThrough (act : Statements → State → Outcome (Unit {0})) (start : Expansion) (want : Outcome (Unit {0})) (rest : List Stmt) (e : Expansion) : Type 0 where
-  pub told : act (statements_of rest) (state_of e) ≡ want
+pub record WentThrough (act : Statements → State → Outcome (Unit {0})) (start : Expansion)
+    (want : Outcome (Unit {0})) (rest : List Stmt) (e : Expansion) : Type 0 where
+  pub agrees : act (statements_of rest) (state_of e) ≡ want
   pub grows : Grows start e

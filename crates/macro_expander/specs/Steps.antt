@@ -1,4 +1,5 @@
--- What a call of the expander answers of a step: its value, or its refusal at the step's place, or want of memory.
+-- What a call of the expander answers of a step: its value, or its refusal at the step's place, or
+-- want of memory.
 use Rattle.std.specs.Prelude.{◌≡◌, Result, Ok, Err}
 use Rattle.scald_base.specs.declared.refusal.Place.{Place}
 use Rattle.scald_base.specs.declared.refusal.Refusal.{Refusal}
@@ -8,7 +9,7 @@ use Rattle.macro_expander.specs.Outcome.{Judged}
 
 -- the refusal of a judgement, or want of memory
 pub record IsJudgedRefusal {A : Type 0} (place : Place) (stop : Stop) (j : Judged A) : Type 0 where
-  pub told : (r : Refusal) → stop ≡ Refused r → j ≡ Err r.kind
+  pub agrees : (r : Refusal) → stop ≡ Refused r → j ≡ Err r.kind
   pub here : (r : Refusal) → stop ≡ Refused r → r.place ≡ place
 
 abbrev pub JudgedAt : {A : Type 0} → Place → Result A Stop → Judged A → Type 0

@@ -24,8 +24,8 @@ use Rattle.macro_expander.specs.Outcome.{Outcome, Gives, Fails, after, Judged, j
 
 -- ---- scopes
 
--- a formal of the macro that is expanded: the numbers of its bits, in the order of its declaration, and the outer bits
--- bound to them
+-- a formal of the macro that is expanded: the numbers of its bits, in the order of its declaration,
+-- and the outer bits bound to them
 pub record Bound : Type 0 where
   pub base : List ℕ
   pub numbers : List ℕ
@@ -72,7 +72,9 @@ last_of env None first = Ok first
 last_of env (Some e) first = valued env e
 
 abbrev pub ends_of : List Binding → Range → Judged (ℤ × ℤ)
-ends_of env range = judging (valued env range.first) (λ first. judging (last_of env range.last first) (λ last. Ok (first, last)))
+ends_of env range =
+    judging (valued env range.first) (λ first.
+    judging (last_of env range.last first) (λ last. Ok (first, last)))
 
 abbrev pub written_ends : List Binding → Option Range → Judged (Option (ℤ × ℤ))
 written_ends env None = Ok None
@@ -105,21 +107,26 @@ outer_bits numbers bits chosen = collected (outer_bit numbers bits) [] chosen
 -- without a range all bits of the formal are meant
 abbrev pub formal_bits : {B : Type 0} → List ℕ → List B → Option (ℤ × ℤ) → Judged (List B)
 formal_bits numbers bits None = Ok bits
-formal_bits numbers bits (Some ends) = judging (numbers_between ends) (λ chosen. outer_bits numbers bits chosen)
+formal_bits numbers bits (Some ends) =
+    judging (numbers_between ends) (λ chosen. outer_bits numbers bits chosen)
 
 -- a formal has no assertion
 abbrev pub if_unasserted : {A : Type 0} → AssertSpec → A → Judged A
 if_unasserted Unasserted a = Ok a
 if_unasserted _ a = Err AssertionClash
 
-unfoldable pub formal_term : {B : Type 0} → List ℕ → List B → AssertSpec → Option (ℤ × ℤ) → Judged (List B)
-formal_term numbers bits spec ends = judging (formal_bits numbers bits ends) (λ chosen. if_unasserted spec chosen)
+unfoldable pub formal_term : {B : Type 0} → List ℕ → List B → AssertSpec → Option (ℤ × ℤ) →
+    Judged (List B)
+formal_term numbers bits spec ends =
+    judging (formal_bits numbers bits ends) (λ chosen. if_unasserted spec chosen)
 
 -- ---- nets
 
 -- it is an assertion, and another than the one that the base name of a scope has
 abbrev pub clashes : List Asserted → List ℕ → AssertSpec → Bool
-clashes asserted text spec = is_asserted spec && (is_asserted (spec_of asserted text) && not (same_assertion spec (spec_of asserted text)))
+clashes asserted text spec =
+    is_asserted spec && (is_asserted (spec_of asserted text)
+    && not (same_assertion spec (spec_of asserted text)))
 
 -- the circuit with the net, whose wire has the header's bounds
 abbrev pub with_net : State → Name → State
@@ -150,23 +157,29 @@ net_bits text spec place numbers s = gathered (net_bit text spec place) [] numbe
 -- ---- terms
 
 -- the bits that a name means, followed by a range with these ends, or by none
-abbrev pub meant : Option Bound → List ℕ → AssertSpec → Option (ℤ × ℤ) → Place → State → Outcome (List Bit)
-meant (Some f) text spec ends place s = judged (formal_term f.numbers f.bits spec ends) place (λ bits. Gives bits s)
-meant None text spec ends place s = judged (numbers_of ends) place (λ numbers. net_bits text spec place numbers s)
+abbrev pub meant : Option Bound → List ℕ → AssertSpec → Option (ℤ × ℤ) → Place → State →
+    Outcome (List Bit)
+meant (Some f) text spec ends place s =
+    judged (formal_term f.numbers f.bits spec ends) place (λ bits. Gives bits s)
+meant None text spec ends place s =
+    judged (numbers_of ends) place (λ numbers. net_bits text spec place numbers s)
 
 unfoldable pub named_bits : Scope → SignalName → Option (ℤ × ℤ) → Place → State → Outcome (List Bit)
-named_bits scope name ends place s = meant (formal_of scope.formals name) (net_text scope.path name) name.spec ends place s
+named_bits scope name ends place s =
+    meant (formal_of scope.formals name) (net_text scope.path name) name.spec ends place s
 
 abbrev pub item_bits : Scope → Item → Place → State → Outcome (List Bit)
 item_bits scope Zero place s = Gives (plain (Fixed false) ∷ []) s
 item_bits scope One place s = Gives (plain (Fixed true) ∷ []) s
-item_bits scope (Named name range) place s = judged (written_ends scope.env range) place (λ ends. named_bits scope name ends place s)
+item_bits scope (Named name range) place s =
+    judged (written_ends scope.env range) place (λ ends. named_bits scope name ends place s)
 
 abbrev pub turned_bit : Bool → Bit → Bit
 turned_bit minus b = record b { inverted = if minus then not b.inverted else b.inverted }
 
 unfoldable pub term_bits : Scope → Place → Term → State → Outcome (List Bit)
-term_bits scope place t s = after (item_bits scope t.item place s) (λ bits s1. Gives (map (turned_bit t.minus) bits) s1)
+term_bits scope place t s =
+    after (item_bits scope t.item place s) (λ bits s1. Gives (map (turned_bit t.minus) bits) s1)
 
 -- ---- connections
 
@@ -175,7 +188,8 @@ pub record Joined : Type 0 where
   pub bits : List Bit
   pub hold : Bool
 
--- A connection has a bit at least: one without a term, which no text draws, is refused as one that is too wide.
+-- A connection has a bit at least: one without a term, which no text draws, is refused as one that
+-- is too wide.
 abbrev pub has_width : List Bit → Bool
 has_width bits = nat_le 1 (length bits) && nat_le (length bits) widest
 
@@ -185,7 +199,8 @@ terms_bits scope place terms s = gathered (term_bits scope place) [] terms s
 unfoldable pub joined : Scope → Place → Connection → State → Outcome (List Joined)
 joined scope place c s =
     after (terms_bits scope place c.terms s) (λ bits s1.
-    if has_width bits then Gives ((record { bits = bits; hold = c.hold }) ∷ []) s1 else Fails Width place)
+    if has_width bits then Gives ((record { bits = bits; hold = c.hold }) ∷ []) s1
+    else Fails Width place)
 
 unfoldable pub all_joined : Scope → Place → List Connection → State → Outcome (List Joined)
 all_joined scope place connections s = gathered (joined scope place) [] connections s

@@ -25,7 +25,8 @@ pub const DEEPEST: u32 = 64;
 /// memory runs out.
 pub fn expand(alloc: Global, drawing: &Drawing) -> Result<Circuit, Stop>
     requires { IsWellFormed (drawing_of drawing.now) }
-    ensures { MatchResult result (IsCircuitOf (drawing_of drawing.now)) (IsStopOf (drawing_of drawing.now)) }
+    ensures { MatchResult result (IsCircuitOf (drawing_of drawing.now))
+        (IsStopOf (drawing_of drawing.now)) }
 {
     match expanded(alloc, drawing) {
         Ok(expansion) => expansion.finish(),
@@ -37,7 +38,8 @@ pub fn expand(alloc: Global, drawing: &Drawing) -> Result<Circuit, Stop>
 /// drawing is needed after it: where memory counts, the drawing goes before `finish` is called.
 pub fn expanded(alloc: Global, drawing: &Drawing) -> Result<Expansion, Stop>
     requires { IsWellFormed (drawing_of drawing.now) }
-    ensures { MatchResult result (IsExpansionOf (drawing_of drawing.now)) (IsStopOf (drawing_of drawing.now)) }
+    ensures { MatchResult result (IsExpansionOf (drawing_of drawing.now))
+        (IsStopOf (drawing_of drawing.now)) }
 {
     let consts = constants(alloc, &drawing.consts, &drawing.const_places)?;
     let top = Scope::top(alloc, copied_env(alloc, &consts)?);
@@ -59,10 +61,11 @@ pub fn expanded(alloc: Global, drawing: &Drawing) -> Result<Expansion, Stop>
 }
 
 impl Expansion {
-    /// The circuit of the drawing that is expanded so, or the refusal of the first rule of circuits that
-    /// it breaks.
+    /// The circuit of the drawing that is expanded so, or the refusal of the first rule of circuits
+    /// that it breaks.
     pub fn finish(self) -> Result<Circuit, Stop>
-        ensures { (d : Drawn) → IsExpansionOf d self → MatchResult result (IsCircuitOf d) (IsStopOf d) }
+        ensures { (d : Drawn) → IsExpansionOf d self →
+            MatchResult result (IsCircuitOf d) (IsStopOf d) }
     {
         let Expansion {
             builder,

@@ -55,7 +55,8 @@ fn item_bits(
 ) -> Result<Bits, Stop>
     requires fits { ItemFits expansion.old.builder.header (item_of item.now) }
     requires exists { ScopeExists (nets_in expansion.old) scope.now }
-    ensures { BitsAt expansion.old expansion.new result (spec_item_bits (scope_of (names_in expansion.old) scope.now)
+    ensures { BitsAt expansion.old expansion.new result
+        (spec_item_bits (scope_of (names_in expansion.old) scope.now)
         (item_of item.now) place (state_of expansion.old)) }
 {
     match item {
@@ -88,7 +89,8 @@ fn term_bits(
 ) -> Result<Bits, Stop>
     requires fits { TermFits expansion.old.builder.header (term_of term.now) }
     requires exists { ScopeExists (nets_in expansion.old) scope.now }
-    ensures { BitsAt expansion.old expansion.new result (spec_term_bits (scope_of (names_in expansion.old) scope.now)
+    ensures { BitsAt expansion.old expansion.new result
+        (spec_term_bits (scope_of (names_in expansion.old) scope.now)
         place (term_of term.now) (state_of expansion.old)) }
 {
     let bits = item_bits(expansion, alloc, scope, &term.item, place)?;
@@ -109,9 +111,9 @@ fn keep(bits: &mut Bits, more: &[BitRef]) -> Result<(), NoMemory>
     Ok(())
 }
 
-/// The bits of terms, from left to right. One term, as most connections have, needs no list of its own.
-/// Where they are too many for a connection no more are kept than show it, and the terms that are left
-/// are asked for their refusals alone.
+/// The bits of terms, from left to right. One term, as most connections have, needs no list of its
+/// own. Where they are too many for a connection no more are kept than show it, and the terms that
+/// are left are asked for their refusals alone.
 fn terms_bits(
     expansion: &mut Expansion,
     alloc: Global,
@@ -147,7 +149,8 @@ fn join(
 ) -> Result<Joined, Stop>
     requires fits { ConnectionFits expansion.old.builder.header (connection_of connection.now) }
     requires exists { ScopeExists (nets_in expansion.old) scope.now }
-    ensures { JoinedAt expansion.old expansion.new result (spec_joined (scope_of (names_in expansion.old) scope.now)
+    ensures { JoinedAt expansion.old expansion.new result
+        (spec_joined (scope_of (names_in expansion.old) scope.now)
         place (connection_of connection.now) (state_of expansion.old)) }
 {
     let bits = terms_bits(expansion, alloc, scope, connection.terms.as_slice(), place)?;
@@ -168,7 +171,8 @@ fn all_joined(
     connections: &[Conn],
     place: Place,
 ) -> Result<Row<Joined>, Stop>
-    requires fits { All (ConnectionFits expansion.old.builder.header) (map connection_of connections.now) }
+    requires fits { All (ConnectionFits expansion.old.builder.header)
+        (map connection_of connections.now) }
     requires exists { ScopeExists (nets_in expansion.old) scope.now }
     ensures { AllJoinedAt expansion.old expansion.new result
         (spec_all_joined (scope_of (names_in expansion.old) scope.now)
@@ -192,7 +196,8 @@ pub(crate) fn all_wires(
     requires fits { UseFits expansion.old.builder.header (use_of statement.now) }
     requires exists { ScopeExists (nets_in expansion.old) scope.now }
     ensures { WiresAt expansion.old expansion.new result
-        (wires_of (scope_of (names_in expansion.old) scope.now) (use_of statement.now) (state_of expansion.old)) }
+        (wires_of (scope_of (names_in expansion.old) scope.now) (use_of statement.now)
+        (state_of expansion.old)) }
 {
     let place = statement.place;
     let ins = all_joined(expansion, alloc, scope, statement.ins.as_slice(), place)?;

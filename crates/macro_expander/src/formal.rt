@@ -55,7 +55,8 @@ fn value_or_default(
     param: &Assign,
     place: Place,
 ) -> Result<i64, Stop>
-    ensures { JudgedAt place result (spec_value_or_default consts.now given (assignment_of param.now)) }
+    ensures { JudgedAt place result
+        (spec_value_or_default consts.now given (assignment_of param.now)) }
 {
     match given {
         Some(value) => Ok(value),
@@ -72,10 +73,11 @@ fn parameter(
     place: Place,
 ) -> Result<Binding, Stop>
     requires { LeadWhereMany binding_name places.now.entries given.now }
-    ensures { JudgedAt place result (spec_parameter consts.now given.now (assignment_of param.now)) }
+    ensures { JudgedAt place result
+        (spec_parameter consts.now given.now (assignment_of param.now)) }
 {
-    let told = value_given(given, places, param.name.as_slice());
-    let value = value_or_default(consts, told, param, place)?;
+    let written = value_given(given, places, param.name.as_slice());
+    let value = value_or_default(consts, written, param, place)?;
     let name = Bytes::of(alloc, param.name.as_slice())?;
     Ok(Binding { name, value })
 }
@@ -89,7 +91,8 @@ fn parameters_by(
     place: Place,
 ) -> Result<Env, Stop>
     requires { LeadWhereMany binding_name places.now.entries given.now }
-    ensures { JudgedAt place result (parameters_of consts.now given.now (map assignment_of params.now)) }
+    ensures { JudgedAt place result
+        (parameters_of consts.now given.now (map assignment_of params.now)) }
 {
     let mut env = List::new(alloc);
     for param in params.as_slice() {
@@ -99,7 +102,8 @@ fn parameters_by(
 }
 
 /// The parameters of a macro with their values, where a use gives these: a default names constants
-/// alone. The first that has no value is refused at this place; `NoMemory` comes where memory runs out.
+/// alone. The first that has no value is refused at this place; `NoMemory` comes where memory runs
+/// out.
 pub fn parameters(
     alloc: Global,
     consts: &Env,
@@ -107,7 +111,8 @@ pub fn parameters(
     params: &Defaults,
     place: Place,
 ) -> Result<Env, Stop>
-    ensures { JudgedAt place result (parameters_of consts.now given.now (map assignment_of params.now)) }
+    ensures { JudgedAt place result
+        (parameters_of consts.now given.now (map assignment_of params.now)) }
 {
     let places = places(alloc, given.as_slice())?;
     parameters_by(alloc, consts, given, &places, params, place)
@@ -144,7 +149,8 @@ pub fn inside_of(
     given: &Env,
     place: Place,
 ) -> Result<Inside, Stop>
-    ensures { JudgedAt place result (spec_inside_of consts.now (macro_of definition.now) given.now) }
+    ensures { JudgedAt place result
+        (spec_inside_of consts.now (macro_of definition.now) given.now) }
 {
     let mut env = parameters(alloc, consts, given, &definition.params, place)?;
     add_bindings(alloc, &mut env, consts.as_slice())?;
@@ -155,7 +161,8 @@ pub fn inside_of(
 
 /// Whether each is a parameter of the macro and none comes twice, where they are few.
 fn are_few_parameters(definition: &MacroDef, params: &Assigns) -> bool
-    ensures { result ≡ are_of (has_parameter (macro_of definition.now)) (map assignment_of params.now) }
+    ensures { result ≡ are_of (has_parameter (macro_of definition.now))
+        (map assignment_of params.now) }
 {
     let params = params.as_slice();
     for i in 0..params.len() {

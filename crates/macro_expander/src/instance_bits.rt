@@ -170,7 +170,8 @@ pub(crate) struct Wiring<'a> {
 /// Bit k of a use.
 fn instance(alloc: Global, wiring: &Wiring, k: u16) -> Result<Instance, NoMemory>
     ensures { IfOk result (λ j. j ≡ instance_ref wiring.now.path.now
-        wiring.now.statement.now wiring.now.kind wiring.now.plan wiring.now.ins.now wiring.now.outs.now k) }
+        wiring.now.statement.now wiring.now.kind wiring.now.plan wiring.now.ins.now
+        wiring.now.outs.now k) }
 {
     let output = output(wiring.outs, k as usize);
     Ok(Instance {
@@ -189,11 +190,15 @@ fn instance(alloc: Global, wiring: &Wiring, k: u16) -> Result<Instance, NoMemory
 
 /// Adds bit k of a use.
 fn add_bit(expansion: &mut Expansion, alloc: Global, wiring: &Wiring, k: u16) -> Result<(), Stop>
-    requires { InstanceFits expansion.old.builder.header (nets_in expansion.old) (instance_ref wiring.now.path.now
-        wiring.now.statement.now wiring.now.kind wiring.now.plan wiring.now.ins.now wiring.now.outs.now k) }
+    requires { InstanceFits expansion.old.builder.header (nets_in expansion.old)
+        (instance_ref wiring.now.path.now
+        wiring.now.statement.now wiring.now.kind wiring.now.plan wiring.now.ins.now
+        wiring.now.outs.now k) }
     ensures done { DoneAt expansion.old expansion.new result
-        (adding (instance_of (names_in expansion.old) (instance_ref wiring.now.path.now wiring.now.statement.now
-        wiring.now.kind wiring.now.plan wiring.now.ins.now wiring.now.outs.now k)) (state_of expansion.old)) }
+        (adding (instance_of (names_in expansion.old)
+        (instance_ref wiring.now.path.now wiring.now.statement.now
+        wiring.now.kind wiring.now.plan wiring.now.ins.now wiring.now.outs.now k))
+        (state_of expansion.old)) }
     ensures same { OnOk result (SameNets expansion.old expansion.new) }
 {
     let instance = instance(alloc, wiring, k)?;
@@ -215,7 +220,8 @@ pub(crate) fn add_bits(
         wiring.now.kind wiring.now.plan wiring.now.ins.now wiring.now.outs.now k) }
     requires few { width ≤ 256 }
     ensures { DoneAt expansion.old expansion.new
-        result (all_added wiring.now.path.now (use_of wiring.now.statement.now) wiring.now.kind wiring.now.plan
+        result (all_added wiring.now.path.now
+        (use_of wiring.now.statement.now) wiring.now.kind wiring.now.plan
         width (map (joined_of (names_in expansion.old)) wiring.now.ins.now)
         (map (joined_of (names_in expansion.old)) wiring.now.outs.now) (state_of expansion.old)) }
 {

@@ -1,4 +1,5 @@
-//! Laws of how drawings are refused in expansion. The functions do nothing: what each states is its contract.
+//! Laws of how drawings are refused in expansion. The functions do nothing: what each states is its
+//! contract.
 
 ghost use Rattle.macro_expander.specs.Laws.{CasesStopAtPlaces, StopsAtPlaces};
 

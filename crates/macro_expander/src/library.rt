@@ -60,7 +60,8 @@ impl<'a> Library<'a> {
     /// The first macro of a name.
     pub fn find(&self, name: &[u8]) -> Option<&'a MacroDef>
         requires { LeadToMacros self.now }
-        ensures { option_map macro_of (option_copied result) ≡ first_called name.now (macros_in self.now) }
+        ensures { option_map macro_of (option_copied result)
+            ≡ first_called name.now (macros_in self.now) }
     {
         named(&self.places, self.macros.as_slice(), name)
     }

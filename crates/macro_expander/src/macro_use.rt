@@ -30,7 +30,8 @@ fn bound(alloc: Global, shape: &Shape, bits: Bits) -> Result<Bound, NoMemory>
     })
 }
 
-/// An input bound to its formal: as many bits as the formal has, or one bit, which is spread over it.
+/// An input bound to its formal: as many bits as the formal has, or one bit, which is spread over
+/// it.
 #[tactic(auto, using(crate::proofs::Binding::spread_is))]
 fn bound_input(alloc: Global, shape: &Shape, joined: &Joined, place: Place) -> Result<Bound, Stop>
     requires { IsRange shape.now }
@@ -140,8 +141,10 @@ pub(crate) fn inner_scope(
 ) -> Result<Scope, Stop>
     requires fits { UseFits expansion.old.builder.header (use_of statement.now) }
     requires exists { ScopeExists (nets_in expansion.old) scope.now }
-    ensures { ScopeAt expansion.old expansion.new result (spec_inner_scope consts.now (macro_of definition.now)
-        given.now (scope_of (names_in expansion.old) scope.now) (use_of statement.now) (state_of expansion.old)) }
+    ensures { ScopeAt expansion.old expansion.new result
+        (spec_inner_scope consts.now (macro_of definition.now)
+        given.now (scope_of (names_in expansion.old) scope.now) (use_of statement.now)
+        (state_of expansion.old)) }
 {
     let place = statement.place;
     let inside = inside_of(alloc, consts, definition, given, place)?;

@@ -43,8 +43,8 @@ pub(crate) fn assigned(
     Ok(Binding { name, value })
 }
 
-/// The values that a use gives, in the order of its text. The first that has none is refused at this
-/// place; `NoMemory` comes where memory runs out.
+/// The values that a use gives, in the order of its text. The first that has none is refused at
+/// this place; `NoMemory` comes where memory runs out.
 pub fn values_given(alloc: Global, params: &Assigns, env: &Env, place: Place) -> Result<Env, Stop>
     ensures { JudgedAt place result (spec_values_given env.now (map assignment_of params.now)) }
 {

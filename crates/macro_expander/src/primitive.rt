@@ -242,7 +242,8 @@ fn limits_for(period: u16, check: Check, given: &Env) -> Result<Limits, RefusalK
     }
 }
 
-/// The limits of a checker whose use gives these values, or why they are refused; another kind has none.
+/// The limits of a checker whose use gives these values, or why they are refused; another kind has
+/// none.
 pub fn limits_of(period: u16, kind: Kind, given: &Env) -> Result<Limits, RefusalKind>
     ensures { result ≡ spec_limits_of period kind given.now }
 {
@@ -264,8 +265,8 @@ fn are_connected(kind: Kind, statement: &UseStmt) -> bool
 }
 
 /// The delays and the limits of a use, or its refusal: a delay that is missing or not allowed, a
-/// parameter that is not the kind's or comes twice, the first fault of an expression, a value out of
-/// its bounds, or a wrong number of connections or marks.
+/// parameter that is not the kind's or comes twice, the first fault of an expression, a value out
+/// of its bounds, or a wrong number of connections or marks.
 #[tactic(auto, unfolding(crate::specs::Primitives::plan_of))]
 pub(crate) fn planned(
     alloc: Global,
@@ -274,7 +275,8 @@ pub(crate) fn planned(
     statement: &UseStmt,
     env: &Env,
 ) -> Result<Plan, Stop>
-    ensures { JudgedAt statement.now.place result (plan_of period kind env.now (use_of statement.now)) }
+    ensures { JudgedAt statement.now.place result
+        (plan_of period kind env.now (use_of statement.now)) }
 {
     let place = statement.place;
     if !takes_delays(kind, statement) {

@@ -44,7 +44,8 @@ pub(crate) fn primitive_use(
     requires fits { UseFits expansion.old.builder.header (use_of statement.now) }
     requires exists { ScopeExists (nets_in expansion.old) scope.now }
     ensures { DoneAt expansion.old expansion.new result (spec_primitive_use (setting_in library.now)
-        kind (scope_of (names_in expansion.old) scope.now) (use_of statement.now) (state_of expansion.old)) }
+        kind (scope_of (names_in expansion.old) scope.now) (use_of statement.now)
+        (state_of expansion.old)) }
 {
     let plan = planned(alloc, library.ticks, kind, statement, &scope.env)?;
     let mut wires = all_wires(expansion, alloc, scope, statement)?;

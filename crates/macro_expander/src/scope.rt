@@ -18,8 +18,8 @@ use std::alloc::Global;
 use std::marker::Model;
 use vector_names::{BitRef, Bits, Indices};
 
-/// A formal of the macro that is expanded: the numbers of its bits, in the order of its declaration,
-/// and the outer bits bound to them.
+/// A formal of the macro that is expanded: the numbers of its bits, in the order of its
+/// declaration, and the outer bits bound to them.
 #[derive(Drop, Debug)]
 pub struct Bound {
     /// Its name in the macro's body.
@@ -230,7 +230,8 @@ pub(crate) fn formal_term(
     place: Place,
 ) -> Result<Bits, Stop>
     requires { HasRun bound.now }
-    ensures { JudgedAt place result (spec_formal_term bound.now.numbers bound.now.bits spec.now ends) }
+    ensures { JudgedAt place result
+        (spec_formal_term bound.now.numbers bound.now.bits spec.now ends) }
 {
     let bits = formal_bits(alloc, bound, ends, place)?;
     match spec {

@@ -78,7 +78,8 @@ pub(crate) fn body(
     requires fits { StatementsFit expansion.old.builder.header (statements_of statements.now) }
     requires exists { ScopeExists (nets_in expansion.old) scope.now }
     ensures { DoneAt expansion.old expansion.new result (statements_in library.now levels
-        (statements_of statements.now) (scope_of (names_in expansion.old) scope.now) (state_of expansion.old)) }
+        (statements_of statements.now) (scope_of (names_in expansion.old) scope.now)
+        (state_of expansion.old)) }
 {
     'statements: for statement in statements {
         one(expansion, alloc, library, statement, scope, levels)?;
@@ -99,7 +100,8 @@ fn one(
     requires fits { StatementFits expansion.old.builder.header (statement_of statement.now) }
     requires exists { ScopeExists (nets_in expansion.old) scope.now }
     ensures { DoneAt expansion.old expansion.new result (statement_in library.now
-        levels (statement_of statement.now) (scope_of (names_in expansion.old) scope.now) (state_of expansion.old)) }
+        levels (statement_of statement.now) (scope_of (names_in expansion.old) scope.now)
+        (state_of expansion.old)) }
 {
     count(expansion, place_of(statement))?;
     match statement {
@@ -124,7 +126,8 @@ fn expand_if(
     requires fits { StatementFits expansion.old.builder.header (if_of choice.now) }
     requires exists { ScopeExists (nets_in expansion.old) scope.now }
     ensures { DoneAt expansion.old expansion.new result (uncounted_in library.now
-        levels (if_of choice.now) (scope_of (names_in expansion.old) scope.now) (state_of expansion.old)) }
+        levels (if_of choice.now) (scope_of (names_in expansion.old) scope.now)
+        (state_of expansion.old)) }
 {
     let statements = chosen(choice, &scope.env)?;
     body(expansion, alloc, library, statements, scope, levels)
@@ -144,7 +147,8 @@ fn expand_for(
     requires fits { StatementFits expansion.old.builder.header (for_of repeated.now) }
     requires exists { ScopeExists (nets_in expansion.old) scope.now }
     ensures { DoneAt expansion.old expansion.new result (uncounted_in library.now
-        levels (for_of repeated.now) (scope_of (names_in expansion.old) scope.now) (state_of expansion.old)) }
+        levels (for_of repeated.now) (scope_of (names_in expansion.old) scope.now)
+        (state_of expansion.old)) }
 {
     let ends = loop_ends(repeated, &scope.env)?;
     let first = ends.0;
@@ -234,7 +238,8 @@ fn expand_macro(
     requires fits { UseFits expansion.old.builder.header (use_of used.now) }
     requires exists { ScopeExists (nets_in expansion.old) scope.now }
     ensures { DoneAt expansion.old expansion.new result
-        (macro_use (setting_in library.now) (bodies_in library.now levels) (Some (macro_of definition.now))
+        (macro_use (setting_in library.now) (bodies_in library.now levels)
+        (Some (macro_of definition.now))
         (use_of used.now) (scope_of (names_in expansion.old) scope.now) (state_of expansion.old)) }
 {
     let given = given_to(alloc, definition, &scope.env, used)?;

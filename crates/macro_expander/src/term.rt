@@ -51,7 +51,8 @@ fn net_bits(
 ) -> Result<Bits, Stop>
     requires { Fits expansion.old.builder.header spec.now }
     ensures { BitsAt expansion.old expansion.new
-        result (spec_net_bits (path.now ++ base.now) spec.now place numbers.now (state_of expansion.old)) }
+        result (spec_net_bits (path.now ++ base.now) spec.now place numbers.now
+        (state_of expansion.old)) }
 {
     let mut bits = List::with_room(alloc, numbers.len())?;
     for number in numbers {
@@ -80,7 +81,8 @@ fn numbered_bits(
 ) -> Result<Bits, Stop>
     requires { Fits expansion.old.builder.header name.now.spec }
     ensures { BitsAt expansion.old expansion.new
-        result (spec_net_bits (net_text path.now name.now) name.now.spec place numbers.now (state_of expansion.old)) }
+        result (spec_net_bits (net_text path.now name.now) name.now.spec place numbers.now
+        (state_of expansion.old)) }
 {
     let base = name.base.as_slice();
     if !name.global {
@@ -109,7 +111,8 @@ fn fresh_bits(
 ) -> Result<Bits, Stop>
     requires { Fits expansion.old.builder.header name.now.spec }
     ensures { BitsAt expansion.old expansion.new
-        result (meant None (net_text path.now name.now) name.now.spec ends place (state_of expansion.old)) }
+        result (meant None (net_text path.now name.now) name.now.spec ends place
+        (state_of expansion.old)) }
 {
     if ends.is_none() {
         return numbered_bits(expansion, alloc, path, name, &[0], place);
@@ -120,7 +123,8 @@ fn fresh_bits(
 
 fn local_formal<'a>(scope: &'a Scope, name: &SignalName) -> Option<&'a Bound>
     ensures first { option_copied result
-        ≡ (if name.now.global then None else find (λ f. bytes_eq f.base name.now.base) scope.now.formals) }
+        ≡ (if name.now.global then None
+        else find (λ f. bytes_eq f.base name.now.base) scope.now.formals) }
     ensures run { IfSome result (λ f. HasRun f.now) }
 {
     if name.global {
@@ -141,7 +145,8 @@ pub(crate) fn named_bits(
     requires fits { Fits expansion.old.builder.header name.now.spec }
     requires exists { ScopeExists (nets_in expansion.old) scope.now }
     ensures { BitsAt expansion.old expansion.new result
-        (spec_named_bits (scope_of (names_in expansion.old) scope.now) name.now ends place (state_of expansion.old)) }
+        (spec_named_bits (scope_of (names_in expansion.old) scope.now) name.now ends place
+        (state_of expansion.old)) }
 {
     match local_formal(scope, name) {
         Some(bound) => formal_term(alloc, bound, &name.spec, ends, place),

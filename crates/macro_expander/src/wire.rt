@@ -21,7 +21,8 @@ use vector_names::{BitRef, Target};
 fn set_wire(expansion: &mut Expansion, target: Target, wire: Delay)
     requires { TargetExists (nets_in expansion.old) target }
     ensures { Wired expansion.old
-        expansion.new (with_wire wire (where_of (names_in expansion.old) target) (state_of expansion.old)) }
+        expansion.new (with_wire wire (where_of (names_in expansion.old) target)
+        (state_of expansion.old)) }
 {
     match target {
         Target::Net(net) => {
@@ -35,7 +36,8 @@ fn set_wire(expansion: &mut Expansion, target: Target, wire: Delay)
 fn set_wires(expansion: &mut Expansion, bits: &[BitRef], wire: Delay)
     requires { All (BitExists (nets_in expansion.old)) bits.now }
     ensures { Wired expansion.old
-        expansion.new (with_wires wire (map (bit_of (names_in expansion.old)) bits.now) (state_of expansion.old)) }
+        expansion.new (with_wires wire (map (bit_of (names_in expansion.old)) bits.now)
+        (state_of expansion.old)) }
 {
     for bit in bits {
         set_wire(expansion, bit.target, wire);
@@ -53,7 +55,8 @@ pub(crate) fn wire_bounds(
     requires fits { Fits expansion.old.builder.header statement.now.name.spec }
     requires exists { ScopeExists (nets_in expansion.old) scope.now }
     ensures { DoneAt expansion.old expansion.new result
-        (wire_act (wire_of statement.now) (scope_of (names_in expansion.old) scope.now) (state_of expansion.old)) }
+        (wire_act (wire_of statement.now) (scope_of (names_in expansion.old) scope.now)
+        (state_of expansion.old)) }
 {
     let place = statement.place;
     let ends = at(place, written_ends(&statement.range, &scope.env))?;

@@ -32,9 +32,11 @@ ideal_slots h c = slots (period h) (λ p. step_value (ideal c h (back (period h)
 abbrev pub sooner : List Value → ℕ → List Value
 sooner cells by = slots (length cells) (λ p. earlier values cells (p + by) 0)
 
--- the ideal clock as early as it may come, and by how much later it may, which is less than a period
+-- the ideal clock as early as it may come, and by how much later it may, which is less than a
+-- period
 abbrev pub skewed_clock : Header → ClockSpec → ℕ × ℕ → Wave Value
-skewed_clock h c skew = skewed (sooner (ideal_slots h c) skew.0) (min (skew.0 + skew.1) (period h - 1))
+skewed_clock h c skew =
+    skewed (sooner (ideal_slots h c) skew.0) (min (skew.0 + skew.1) (period h - 1))
 
 -- A `.P` clock keeps its skew, since it comes early or late as a whole.
 abbrev pub precision_wave : Header → ClockSpec → Wave Value

@@ -18,18 +18,24 @@ pub record MeetsPrecision (h : Header) (c : ClockSpec) (n : ℕ) (x : Signal) : 
 
 -- the slot of tick t is of the region of an edge to this bit
 abbrev pub NearEdge : Header → ClockSpec → Bool → ℕ → Type 0
-NearEdge h c to t = (edge : ℕ) × IsInRegion c h (skew_of c h.cskew).0 (skew_of c h.cskew).1 to edge (back (period h) t 0)
+NearEdge h c to t =
+    (edge : ℕ) × IsInRegion c h (skew_of c h.cskew).0 (skew_of c h.cskew).1 to edge
+    (back (period h) t 0)
 
--- `.C`: each edge moves by itself, so near a rise the net does not fall, near a fall it does not rise, and elsewhere it is the ideal clock.
+-- `.C`: each edge moves by itself, so near a rise the net does not fall, near a fall it does not
+-- rise, and elsewhere it is the ideal clock.
 pub record MeetsClock (h : Header) (c : ClockSpec) (n : ℕ) (x : Signal) : Type 0 where
   pub rises : (t : ℕ) → 1 ≤ t → t < n → NearEdge h c true t → x (t - 1) ≡ true → x t ≡ true
   pub falls : (t : ℕ) → 1 ≤ t → t < n → NearEdge h c false t → x (t - 1) ≡ false → x t ≡ false
-  pub before : (t : ℕ) → 1 ≤ t → t < n → ¬ NearEdge h c true t → ¬ NearEdge h c false t → x (t - 1) ≡ ideal c h (back (period h) t 1)
-  pub after : (t : ℕ) → 1 ≤ t → t < n → ¬ NearEdge h c true t → ¬ NearEdge h c false t → x t ≡ ideal c h (back (period h) t 0)
+  pub before : (t : ℕ) → 1 ≤ t → t < n → ¬ NearEdge h c true t → ¬ NearEdge h c false t →
+      x (t - 1) ≡ ideal c h (back (period h) t 1)
+  pub after : (t : ℕ) → 1 ≤ t → t < n → ¬ NearEdge h c true t → ¬ NearEdge h c false t →
+      x t ≡ ideal c h (back (period h) t 0)
 
 -- `.S`: no step in a quiet slot. Without intervals every slot is quiet, and the net is constant.
 abbrev pub MeetsStable : Header → List Span → ℕ → Signal → Type 0
-MeetsStable h spans n x = (t : ℕ) → 1 ≤ t → t < n → quiet spans h (back (period h) t 0) ≡ true → x (t - 1) ≡ x t
+MeetsStable h spans n x =
+    (t : ℕ) → 1 ≤ t → t < n → quiet spans h (back (period h) t 0) ≡ true → x (t - 1) ≡ x t
 
 -- The first n bits of a net keep its assertion. A net without one is constant, by premise.
 abbrev pub Meets : Header → AssertSpec → ℕ → Signal → Type 0

@@ -25,7 +25,8 @@ fn step(before: bool, after: bool) -> Value
 /// What the ideal clock does in a slot: it rises or falls there, or it is 0 or 1 before and after.
 fn clock_value(clock: &ClockSpec, h: &Header, slot: u16) -> Value
     requires { slot < period h.now }
-    ensures { result ≡ step_value (ideal clock.now h.now (back (period h.now) slot 1)) (ideal clock.now h.now slot) }
+    ensures { result ≡ step_value (ideal clock.now h.now (back (period h.now) slot 1))
+        (ideal clock.now h.now slot) }
 {
     let period = h.period();
     let before = ideal(clock, h, (slot + (period - 1)) % period);
@@ -39,7 +40,8 @@ pub fn clock_slots(
     h: &Header,
     early: u16,
 ) -> Result<Vec<Value>, NoMemory>
-    ensures cells { IfOk result (λ cells. cells.items ≡ sooner (ideal_slots h.now clock.now) early) }
+    ensures cells { IfOk result (λ cells.
+        cells.items ≡ sooner (ideal_slots h.now clock.now) early) }
     ensures sized { IfOk result (λ cells. length cells.items ≡ period h.now) }
 {
     let period = h.period();

@@ -103,8 +103,8 @@ fn asserted_wave<W: CyclicWave<Item = Value>>(
 }
 
 /// The wave of a net that nothing drives, by its assertion: it permits each net that keeps the
-/// assertion from tick 1 on, and its fold is the wide wave. Without an assertion the net is constant,
-/// and its wave S in all slots.
+/// assertion from tick 1 on, and its fold is the wide wave. Without an assertion the net is
+/// constant, and its wave S in all slots.
 pub fn interface_wave<W: CyclicWave<Item = Value>>(
     alloc: Global,
     spec: &AssertSpec,

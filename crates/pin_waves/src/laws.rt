@@ -1,4 +1,5 @@
-//! What holds of nets that keep their assertions, each law as the contract of a function that does nothing.
+//! What holds of nets that keep their assertions, each law as the contract of a function that does
+//! nothing.
 
 ghost use Rattle.pin_waves.specs.Laws.{FrontKeeps, IdealKeepsClock, IdealKeepsPrecision, NextPeriodKeeps, RestKeeps};
 

@@ -9,8 +9,8 @@ use std::alloc::Global;
 use step_values::Value;
 use wave_core::CyclicWave;
 
-/// The wave of a pin on a net with this wave: late by the bounds of the net's wire, and complemented
-/// where the pin is marked so.
+/// The wave of a pin on a net with this wave: late by the bounds of the net's wire, and
+/// complemented where the pin is marked so.
 pub fn pin_wave<W: CyclicWave<Item = Value>>(
     alloc: Global,
     net: &Skewed<W>,

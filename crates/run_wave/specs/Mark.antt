@@ -10,4 +10,5 @@ marked_run i = 16 * (i + 1)
 -- Each mark is of a run that is there, and has the number of slots before it.
 abbrev pub AreMarks : {T : Type 0} → List (Run T) → List ℕ → Type 0
 AreMarks rs marks =
-    (i : ℕ) → i < length marks → (marked_run i < length rs) × (slice_index_or marks i 0 ≡ length (cells_of (take (marked_run i) rs)))
+    (i : ℕ) → i < length marks → (marked_run i < length rs)
+    × (slice_index_or marks i 0 ≡ length (cells_of (take (marked_run i) rs)))

@@ -13,7 +13,8 @@ abbrev pub BeginsWithout : {T : Type 0} → T → List (Run T) → Type 0
 BeginsWithout c [] = ⊤
 BeginsWithout c (r ∷ rs) = c ≢ r.cell
 
--- No run is empty, and its cell is not that of the run after it: so a list of cells has one list of runs.
+-- No run is empty, and its cell is not that of the run after it: so a list of cells has one list of
+-- runs.
 abbrev pub IsRuns : {T : Type 0} → List (Run T) → Type 0
 IsRuns [] = ⊤
 IsRuns (r ∷ rs) = (0 < r.width) × (BeginsWithout r.cell rs × IsRuns rs)

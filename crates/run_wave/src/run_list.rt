@@ -88,7 +88,8 @@ impl<T: Cell + Drop> RunList<T> {
     /// Appends `width` slots of a cell.
     pub fn push(&mut self, cell: T, width: u16) -> Result<(), NoMemory>
         requires { self.old.slots + width < 2 ^ 16 }
-        ensures { OnOk result (cells_of self.new.runs.items ≡ cells_of self.old.runs.items ++ replicate width cell) }
+        ensures { OnOk result (cells_of self.new.runs.items
+            ≡ cells_of self.old.runs.items ++ replicate width cell) }
     {
         if width == 0 {
             return Ok(());
@@ -220,7 +221,8 @@ impl<T: Cell + Drop> RunList<T> {
         self.runs[place].cell
     }
 
-    /// The cell of a slot, and the first slot after it that has another one, or the number of slots.
+    /// The cell of a slot, and the first slot after it that has another one, or the number of
+    /// slots.
     pub fn run_at(&self, slot: u16) -> (T, u16)
         requires { slot < length (cells_of self.now.runs.items) }
         ensures cell { slice_get (cells_of self.now.runs.items) slot ≡ Some result.0 }
@@ -273,7 +275,8 @@ impl<T: Cell + Drop> RunList<T> {
     /// All slots, of which there are some.
     pub fn whole(&self) -> Rest<T>
         requires { 0 < self.now.slots }
-        ensures cells { cells_of (result.run ∷ drop result.next self.now.runs.items) ≡ cells_of self.now.runs.items }
+        ensures cells { cells_of (result.run ∷ drop result.next self.now.runs.items)
+            ≡ cells_of self.now.runs.items }
         ensures some { 0 < result.run.width }
     {
         Rest {
@@ -286,7 +289,8 @@ impl<T: Cell + Drop> RunList<T> {
     pub fn after(&self, rest: &Rest<T>, width: u16) -> Rest<T>
         requires { width ≤ rest.now.run.width }
         ensures cells { cells_of (rest.now.run ∷ drop rest.now.next self.now.runs.items)
-            ≡ replicate width rest.now.run.cell ++ cells_of (result.run ∷ drop result.next self.now.runs.items) }
+            ≡ replicate width rest.now.run.cell
+            ++ cells_of (result.run ∷ drop result.next self.now.runs.items) }
         ensures some { 0 < length (cells_of (result.run ∷ drop result.next self.now.runs.items)) →
             0 < result.run.width }
     {

@@ -20,11 +20,13 @@ pub struct RunWave<T> {
 }
 
 impl<T: Cell + Drop> RunWave<T> {
-    /// The runs: spelled out they are the cells of the wave, so their widths sum to the period. None is
-    /// empty, and each has another cell than the one before. The last may have the cell of the first.
+    /// The runs: spelled out they are the cells of the wave, so their widths sum to the period.
+    /// None is empty, and each has another cell than the one before. The last may have the cell of
+    /// the first.
     pub fn runs(&self) -> &[Run<T>]
         ensures spelled { cells_of result.now ≡ ⟦<RunWave<T> as CyclicWave>⟧.cells self.now }
-        ensures whole { sum_by (λ r. r.width) result.now ≡ length (⟦<RunWave<T> as CyclicWave>⟧.cells self.now) }
+        ensures whole { sum_by (λ r. r.width) result.now
+            ≡ length (⟦<RunWave<T> as CyclicWave>⟧.cells self.now) }
         ensures few { IsRuns result.now }
     {
         &self.list.runs
@@ -37,7 +39,8 @@ impl<T: Cell + Drop> RunWave<T> {
         requires some { 0 < by }
         requires below { by < self.now.list.slots }
         ensures { IfOk result (λ w. cells_of w.list.runs.items ≡ map (λ q. T.kind.join q.0 q.1)
-            (zip (cells_of self.now.list.runs.items) (later T.kind (cells_of self.now.list.runs.items) by))) }
+            (zip (cells_of self.now.list.runs.items)
+            (later T.kind (cells_of self.now.list.runs.items) by))) }
     {
         let most = self.list.run_count().saturating_mul(2).saturating_add(1);
         let mut list = RunList::with_room(alloc, most)?;

@@ -37,12 +37,17 @@ all_equal k cells = list_all (k.same (cell_at k cells 0)) cells
 abbrev pub joined : {T : Type 0} → Cells T → List T → T
 joined k cells = join_to k (cell_at k cells) (length cells - 1)
 
--- A steady wave has the join of its slots in each of them; a wave of one cell has no skew; and no skew reaches a period.
+-- A steady wave has the join of its slots in each of them; a wave of one cell has no skew; and no
+-- skew reaches a period.
 unfoldable pub normal : {T : Type 0} → Cells T → Wave T → Wave T
 normal k w =
     if is_steady k w.cells
     then record { cells = slots (length w.cells) (λ p. joined k w.cells); skew = 0 }
-    else record { cells = w.cells; skew = if all_equal k w.cells then 0 else min w.skew (length w.cells - 1) }
+    else record {
+      cells = w.cells;
+      skew = if all_equal k w.cells then 0
+          else min w.skew (length w.cells - 1);
+    }
 
 -- the wave is in normal form
 pub record IsNormal {T : Type 0} (k : Cells T) (w : Wave T) : Type 0 where

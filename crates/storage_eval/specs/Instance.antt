@@ -8,7 +8,8 @@ use Rattle.element_kinds.specs.declared.kind.Kind.{Kind}
 use Rattle.gate_eval.specs.Meeting.{meeting}
 use Rattle.storage_eval.specs.Storage.{listening, storage_value}
 
--- the wave of the output, before its complement: what the waves at the listening pins make where they meet, and then
--- late by the delay
+-- the wave of the output, before its complement: what the waves at the listening pins make where
+-- they meet, and then late by the delay
 unfoldable pub storage_wave : Kind → List (Wave Value) → Bounds → Wave Value
-storage_wave kind waves d = moved values (meeting values (storage_value kind) (listening kind waves)) d
+storage_wave kind waves d =
+    moved values (meeting values (storage_value kind) (listening kind waves)) d

@@ -15,9 +15,11 @@ is_storage kind = by_form keeps_bit kind
 abbrev pub listening_from : {A : Type 0} → Kind → ℕ → List A → List A
 listening_from kind place [] = []
 listening_from kind place (a ∷ more) =
-    if listens kind place then a ∷ listening_from kind (place + 1) more else listening_from kind (place + 1) more
+    if listens kind place then a ∷ listening_from kind (place + 1) more
+    else listening_from kind (place + 1) more
 
--- a register's input does not count: it counts only where the clock rises, and then it may be either
+-- a register's input does not count: it counts only where the clock rises, and then it may be
+-- either
 abbrev pub listening : {A : Type 0} → Kind → List A → List A
 listening kind pins = listening_from kind 0 pins
 

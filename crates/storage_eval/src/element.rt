@@ -55,8 +55,8 @@ impl Image for RegisterRs {
     }
 }
 
-/// A latch with set and reset, by its enable, its input, set and reset. Its table would have an entry
-/// for each of 2,401 choices, of which a wave shows few.
+/// A latch with set and reset, by its enable, its input, set and reset. Its table would have an
+/// entry for each of 2,401 choices, of which a wave shows few.
 #[derive(Drop)]
 pub struct LatchRs;
 

@@ -16,7 +16,8 @@ pub fn listening<W: CyclicWave<Item = Value>>(
     kind: Kind,
     pins: &[PinWave<W>],
 ) -> Result<Vec<PinWave<W>>, NoMemory>
-    ensures { IfOk result (λ heard. map (λ p. p.wave) heard.items ≡ listening kind (map (λ p. p.wave) pins.now)) }
+    ensures { IfOk result (λ heard.
+        map (λ p. p.wave) heard.items ≡ listening kind (map (λ p. p.wave) pins.now)) }
 {
     let mut heard = Vec::with_capacity(alloc, pins.len())?;
     for (place, pin) in pins.iter().enumerate() {

@@ -15,7 +15,9 @@ widest = 256
 
 -- from one number to another, upwards or downwards, both among them
 abbrev pub from_to : ℕ → ℕ → List ℕ
-from_to first last = if nat_le first last then range_with_len first (last - first + 1) else reverse (range_with_len last (first - last + 1))
+from_to first last =
+    if nat_le first last then range_with_len first (last - first + 1)
+    else reverse (range_with_len last (first - last + 1))
 
 -- a number as that of a bit, if it is one
 abbrev pub bit_number : ℤ → Option ℕ
@@ -24,7 +26,8 @@ bit_number (negsuc n) = None
 
 -- the numbers between two, if there are two and they are not too many
 abbrev pub range_of : Option ℕ → Option ℕ → Option (List ℕ)
-range_of (Some first) (Some last) = if nat_le (length (from_to first last)) widest then Some (from_to first last) else None
+range_of (Some first) (Some last) =
+    if nat_le (length (from_to first last)) widest then Some (from_to first last) else None
 range_of _ _ = None
 
 -- The bits of a range, if it is one.

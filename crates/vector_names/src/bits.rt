@@ -27,7 +27,8 @@ pub type Bits = List<BitRef>;
 
 /// The bits of one and then those of the other. `Width` comes exactly where more than 256 come.
 pub fn concat(alloc: Global, a: &Bits, b: &Bits) -> Result<Bits, VectorFault>
-    ensures { MatchResult result (λ bits. concat a.now b.now ≡ Some bits) (IsJoinFault a.now b.now) }
+    ensures { MatchResult result (λ bits. concat a.now b.now ≡ Some bits)
+        (IsJoinFault a.now b.now) }
 {
     if a.len() > WIDEST || b.len() > WIDEST - a.len() {
         return Err(VectorFault::Width);
@@ -38,10 +39,11 @@ pub fn concat(alloc: Global, a: &Bits, b: &Bits) -> Result<Bits, VectorFault>
     Ok(bits)
 }
 
-/// So many bits: these, where they are so many, and a single bit again and again. `Width` comes exactly
-/// where they are neither so many nor one.
+/// So many bits: these, where they are so many, and a single bit again and again. `Width` comes
+/// exactly where they are neither so many nor one.
 pub fn spread(alloc: Global, a: &Bits, width: u16) -> Result<Bits, VectorFault>
-    ensures { MatchResult result (λ bits. spread a.now width ≡ Some bits) (IsSpreadFault a.now width) }
+    ensures { MatchResult result (λ bits. spread a.now width ≡ Some bits)
+        (IsSpreadFault a.now width) }
 {
     if a.len() == width as usize {
         return Ok(copied(alloc, a.as_slice())?);

@@ -14,10 +14,11 @@ pub type Indices = List<u16>;
 /// The most bits that a range or a connection may have.
 pub(crate) const WIDEST: usize = 256;
 
-/// The numbers from the first to the last, upwards or downwards. `BadRange` comes exactly where one of
-/// them is outside 0 to 65,535, or more than 256 come.
+/// The numbers from the first to the last, upwards or downwards. `BadRange` comes exactly where one
+/// of them is outside 0 to 65,535, or more than 256 come.
 pub fn bits_of(alloc: Global, first: i64, last: i64) -> Result<Indices, VectorFault>
-    ensures { MatchResult result (λ numbers. bits_of first last ≡ Some numbers) (IsRangeFault first last) }
+    ensures { MatchResult result (λ numbers. bits_of first last ≡ Some numbers)
+        (IsRangeFault first last) }
 {
     match (bit_number(first), bit_number(last)) {
         (Some(first), Some(last)) => numbers(alloc, first, last),
@@ -35,7 +36,8 @@ fn bit_number(value: i64) -> Option<u16>
 /// The numbers from one to another, if they are not too many.
 fn numbers(alloc: Global, first: u16, last: u16) -> Result<Indices, VectorFault>
     ensures { MatchResult result (λ numbers.
-        range_of (Some first) (Some last) ≡ Some numbers) (IsFaultOf (range_of (Some first) (Some last))) }
+        range_of (Some first) (Some last) ≡ Some numbers)
+        (IsFaultOf (range_of (Some first) (Some last))) }
 {
     if first.abs_diff(last) as usize >= WIDEST {
         return Err(VectorFault::BadRange);

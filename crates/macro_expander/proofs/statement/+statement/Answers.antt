@@ -225,7 +225,7 @@ expand_for-returns-in_err-turn t c =
 pub expand_for-returns-in_err-turn_to : goal.expand_for-returns-in_err-turn_to
 expand_for-returns-in_err-turn_to t c =
     let p = err_from_is_err_and c.from_residual-in_err-turn_to.result c.from_residual-in_err-turn_to.ensures.1 in
-    rw (p.1, p.2) (record { told = λ r is. absurd (cc) })
+    rw (p.1, p.2) (record { agrees = λ r is. absurd (cc) })
 
 pub expand_for-turns-preserved : goal.expand_for-turns-preserved
 expand_for-turns-preserved t c =

@@ -2,7 +2,7 @@
 
 ghost use Rattle.std.specs.Prelude.{◌≡◌, [], ◌∷◌, ◌++◌, length, slice_get, IfOk, OnOk, OnErr};
 ghost use Rattle.std.specs.Option.{option_copied};
-ghost use Rattle.flat_circuit.specs.Few.{items_in};
+ghost use Rattle.flat_circuit.specs.ShortList.{items_in};
 
 use scald_base::NoMemory;
 use std::alloc::Global;
@@ -17,24 +17,24 @@ pub(crate) enum Kept<T> {
     More(Box<Vec<T>>),
 }
 
-/// A growing list, which contracts see as the list of its items. One or two lie in the value itself, and
-/// only more take memory.
+/// A growing list, which contracts see as the list of its items. One or two lie in the value
+/// itself, and only more take memory.
 #[derive(Drop, Debug)]
-pub struct Few<T> {
+pub struct ShortList<T> {
     kept: Kept<T>,
     alloc: Global,
 }
 
-impl<T> Model for Few<T> {
+impl<T> Model for ShortList<T> {
     ghost use Rattle.std.specs.Prelude.{List};
-    ghost use Rattle.flat_circuit.specs.Few.{items_in};
+    ghost use Rattle.flat_circuit.specs.ShortList.{items_in};
 
     ghost Value = { List T };
 
     ghost view = { λ a. items_in a.kept };
 }
 
-impl<T: PartialEq> PartialEq for Few<T> {
+impl<T: PartialEq> PartialEq for ShortList<T> {
     ghost use Rattle.std.specs.Cmp.Lexicographic.{pointwise, lists_per};
     ghost use Rattle.std.specs.Cmp.{on_per};
 
@@ -42,24 +42,24 @@ impl<T: PartialEq> PartialEq for Few<T> {
 
     ghost laws = { on_per (λ x. x) (lists_per T.laws) };
 
-    fn eq(&self, other: &Few<T>) -> bool {
+    fn eq(&self, other: &ShortList<T>) -> bool {
         self.as_slice() == other.as_slice()
     }
 }
 
-impl<T: Eq> Eq for Few<T> {
+impl<T: Eq> Eq for ShortList<T> {
     ghost use Rattle.std.specs.Cmp.Lexicographic.{lists_equiv};
     ghost use Rattle.std.specs.Cmp.{on_equiv};
 
     ghost laws = { on_equiv (λ x. x) (lists_equiv T.Eq.laws) };
 }
 
-impl<T> Few<T> {
+impl<T> ShortList<T> {
     /// No items. It needs no allocation.
-    pub fn new(alloc: Global) -> Few<T>
+    pub fn new(alloc: Global) -> ShortList<T>
         ensures { result ≡ [] }
     {
-        Few {
+        ShortList {
             kept: Kept::Nothing,
             alloc,
         }
@@ -92,17 +92,17 @@ impl<T> Few<T> {
     }
 }
 
-impl<T: Copy> Few<T> {
+impl<T: Copy> ShortList<T> {
     /// No items, with room for so many.
-    pub fn with_room(alloc: Global, items: usize) -> Result<Few<T>, NoMemory>
+    pub fn with_room(alloc: Global, items: usize) -> Result<ShortList<T>, NoMemory>
         ensures { IfOk result (λ none. none ≡ []) }
     {
         if items <= 2 {
-            return Ok(Few::new(alloc));
+            return Ok(ShortList::new(alloc));
         }
         let items = Vec::with_capacity(alloc, items)?;
         let kept = Kept::More(Box::new(alloc, items)?);
-        Ok(Few { kept, alloc })
+        Ok(ShortList { kept, alloc })
     }
 
     /// Appends an item. Where memory runs out the list is as before, and the item is dropped.

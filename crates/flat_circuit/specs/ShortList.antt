@@ -1,7 +1,7 @@
 -- Short lists.
 use Rattle.std.specs.Prelude.{List, []}
-use Rattle.flat_circuit.specs.declared.few.Kept.{Kept}
-use Rattle.flat_circuit.specs.declared.few.Kept.TheVariants.{Nothing, One, Two, More}
+use Rattle.flat_circuit.specs.declared.short_list.Kept.{Kept}
+use Rattle.flat_circuit.specs.declared.short_list.Kept.TheVariants.{Nothing, One, Two, More}
 
 -- the items of a short list, wherever they lie
 abbrev pub items_in : {T : Type 0} → Kept T → List T
