@@ -36,8 +36,8 @@ unfoldable pub digits_at : ℕ → List ℕ → Option (ℕ × List ℕ)
 digits_at value [] = Some (value, [])
 digits_at value (b ∷ rest) =
     if is_ascii_digit b
-    then (if nat_lt 0 value && nat_lt value 1000 then digits_at (value * 10 + (b - 48)) rest
-    else None)
+    then (if nat_lt 0 value && nat_lt value 1000
+    then digits_at (value * 10 + (b - 48)) rest else None)
     else Some (value, b ∷ rest)
 
 -- a number of one to four digits, with no digit after it
@@ -69,9 +69,8 @@ unfoldable pub spans_at : ℕ → List ℕ → Option (List Span × List ℕ)
 spans_at zero rest = None
 spans_at (suc most) rest = do
   span ← span_at rest
-  either (literal_at (codes ",") span.1)
-  (Some (span.0 ∷ [], span.1)) (λ more_text. spans_at most more_text >>= λ more.
-  Some (span.0 ∷ more.0, more.1))
+  either (literal_at (codes ",") span.1) (Some (span.0 ∷ [], span.1)) (λ more_text.
+      spans_at most more_text >>= λ more. Some (span.0 ∷ more.0, more.1))
 
 -- a skew in its parentheses
 unfoldable pub parted_at : List ℕ → Option ((ℕ × ℕ) × List ℕ)
@@ -83,15 +82,14 @@ parted_at rest = do
 -- a skew where a parenthesis opens
 unfoldable pub skew_at : List ℕ → Option (Option (ℕ × ℕ) × List ℕ)
 skew_at rest =
-    either (literal_at (codes "(") rest)
-    (Some (None, rest)) (λ inside. parted_at inside >>= λ skew. Some (Some skew.0, skew.1))
+    either (literal_at (codes "(") rest) (Some (None, rest)) (λ inside.
+    parted_at inside >>= λ skew. Some (Some skew.0, skew.1))
 
 -- the end, and whether an L stands before it
 unfoldable pub low_at : List ℕ → Option Bool
 low_at rest =
-    either (literal_at (codes "L") rest)
-    (if length rest == 0 then Some false else None) (λ left. if length left == 0 then Some true
-    else None)
+    either (literal_at (codes "L") rest) (if length rest == 0 then Some false else None) (λ left.
+    if length left == 0 then Some true else None)
 
 -- what follows a clock's intervals
 unfoldable pub edges_at : List ℕ → Option (Option (ℕ × ℕ) × Bool)
