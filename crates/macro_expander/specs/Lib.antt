@@ -9,6 +9,7 @@ pub mod Loops
 pub mod Flat
 pub mod Steps
 pub mod Numbered
+pub mod Wired
 pub mod Cases
 pub mod Constants
 pub mod Stands

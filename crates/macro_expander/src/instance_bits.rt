@@ -3,9 +3,9 @@
 ghost use Rattle.std.specs.Prelude.{◌≡◌, ℕ, [], ◌++◌, ◌<◌, ◌≤◌, map, IfOk, OnOk};
 ghost use Rattle.std.specs.List.{flat_map, list_all};
 ghost use Rattle.flat_circuit.specs.Instances.{InstanceFits};
-ghost use Rattle.drawing_tree.specs.Tree.{use_of};
-ghost use Rattle.macro_expander.specs.Primitives.{all_added, greatest as spec_greatest, width_of as spec_width_of, can_have, inputs_fit as spec_inputs_fit, bit_at as spec_bit_at, adding};
-ghost use Rattle.macro_expander.specs.Numbered.{bits_in, no_ref, pin_ref, all_refs, column_ref, refs_by, pin_refs, output_ref, target_ref, inverted_ref, instance_ref, instance_of, joined_of, SameNets, DoneAt, state_of, nets_in, names_in};
+ghost use Rattle.macro_expander.specs.Primitives.{greatest as spec_greatest, width_of as spec_width_of, can_have, inputs_fit as spec_inputs_fit, bit_at as spec_bit_at, adding};
+ghost use Rattle.macro_expander.specs.Numbered.{bits_in, no_ref, pin_ref, all_refs, column_ref, refs_by, pin_refs, output_ref, target_ref, inverted_ref, instance_of, SameNets, DoneAt, state_of, nets_in, names_in};
+ghost use Rattle.macro_expander.specs.Wired.{all_wired, wired_bit};
 
 use crate::connection::Joined;
 use crate::expansion::Expansion;
@@ -169,9 +169,7 @@ pub(crate) struct Wiring<'a> {
 
 /// Bit k of a use.
 fn instance(alloc: Global, wiring: &Wiring, k: u16) -> Result<Instance, NoMemory>
-    ensures { IfOk result (λ j. j ≡ instance_ref wiring.now.path.now
-        wiring.now.statement.now wiring.now.kind wiring.now.plan wiring.now.ins.now
-        wiring.now.outs.now k) }
+    ensures { IfOk result (λ j. j ≡ wired_bit wiring.now k) }
 {
     let output = output(wiring.outs, k as usize);
     Ok(Instance {
@@ -191,13 +189,9 @@ fn instance(alloc: Global, wiring: &Wiring, k: u16) -> Result<Instance, NoMemory
 /// Adds bit k of a use.
 fn add_bit(expansion: &mut Expansion, alloc: Global, wiring: &Wiring, k: u16) -> Result<(), Stop>
     requires { InstanceFits expansion.old.builder.header (nets_in expansion.old)
-        (instance_ref wiring.now.path.now
-        wiring.now.statement.now wiring.now.kind wiring.now.plan wiring.now.ins.now
-        wiring.now.outs.now k) }
+        (wired_bit wiring.now k) }
     ensures done { DoneAt expansion.old expansion.new result
-        (adding (instance_of (names_in expansion.old)
-        (instance_ref wiring.now.path.now wiring.now.statement.now
-        wiring.now.kind wiring.now.plan wiring.now.ins.now wiring.now.outs.now k))
+        (adding (instance_of (names_in expansion.old) (wired_bit wiring.now k))
         (state_of expansion.old)) }
     ensures same { OnOk result (SameNets expansion.old expansion.new) }
 {
@@ -214,16 +208,12 @@ pub(crate) fn add_bits(
     wiring: &Wiring,
     width: usize,
 ) -> Result<(), Stop>
-    requires fits { (k : ℕ) →
-        k < width → InstanceFits expansion.old.builder.header (nets_in expansion.old)
-        (instance_ref wiring.now.path.now wiring.now.statement.now
-        wiring.now.kind wiring.now.plan wiring.now.ins.now wiring.now.outs.now k) }
+    requires fits { (k : ℕ) → k < width →
+        InstanceFits expansion.old.builder.header (nets_in expansion.old)
+        (wired_bit wiring.now k) }
     requires few { width ≤ 256 }
-    ensures { DoneAt expansion.old expansion.new
-        result (all_added wiring.now.path.now
-        (use_of wiring.now.statement.now) wiring.now.kind wiring.now.plan
-        width (map (joined_of (names_in expansion.old)) wiring.now.ins.now)
-        (map (joined_of (names_in expansion.old)) wiring.now.outs.now) (state_of expansion.old)) }
+    ensures { DoneAt expansion.old expansion.new result
+        (all_wired (names_in expansion.old) wiring.now width (state_of expansion.old)) }
 {
     for k in 0..width {
         add_bit(expansion, alloc, wiring, k as u16)?;
