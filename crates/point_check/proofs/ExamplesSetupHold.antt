@@ -7,7 +7,7 @@ use Rattle.flat_circuit.specs.declared.instance.Pin.{Pin}
 use Rattle.flat_circuit.specs.declared.instance.Instance.{Instance}
 use Rattle.flat_circuit.specs.Run.{Run}
 use Rattle.flat_circuit.proofs.RunTables.{on, not_on, bits}
-use Rattle.flat_circuit.specs.declared.limits.Limits.TheVariants.{Edges}
+use Rattle.flat_circuit.specs.declared.limits.Limits.TheVariants.{Edges, Pulses}
 use Rattle.fixpoint_engine.proofs.WrittenRuns.{element, alone, run_of}
 use Rattle.point_check.specs.Break.{BreaksInstance}
 use Rattle.point_check.proofs.Literal.{Breaks, broken, unbroken, found, no_setup_hold, nowhere}
@@ -135,6 +135,12 @@ complemented_rise = unbroken (no_setup_hold 4 4 refl refl (λ at. true≢false a
 complemented_input : Breaks (of_pins (on 0 ∷ not_on 1 ∷ []) 2 1)
     (run "00001111" "00001111") 0
 complemented_input = broken record { edge = 4; change = 4; at = search found }
+
+-- ---- limits of pulses are none of edges
+
+other_limits : ¬ Breaks (element SetupHold (Pulses 8 8) (on 0 ∷ on 1 ∷ []))
+    (run "00001100" "00001111") 0
+other_limits = unbroken (no_setup_hold 4 4 refl refl (λ at. omega (arith, at.not_before)))
 
 -- ---- an instance that is not there
 

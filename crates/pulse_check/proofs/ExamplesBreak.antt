@@ -6,7 +6,7 @@ use Rattle.element_kinds.specs.declared.kind.Kind.TheVariants.{Buf, And, Or, Xor
 use Rattle.flat_circuit.specs.declared.instance.Instance.{Instance}
 use Rattle.flat_circuit.specs.Run.{Run}
 use Rattle.flat_circuit.proofs.RunTables.{on, not_on, bits}
-use Rattle.flat_circuit.specs.declared.limits.Limits.TheVariants.{Pulses}
+use Rattle.flat_circuit.specs.declared.limits.Limits.TheVariants.{Edges, Pulses}
 use Rattle.gate_eval.proofs.PermitExamples.{signal}
 use Rattle.fixpoint_engine.proofs.WrittenRuns.{alone, element, run_of}
 use Rattle.pulse_check.specs.Break.{IsPulse, BreaksPulse}
@@ -153,6 +153,13 @@ behind_it = pulse_to 5 7 (omega arith) refl refl refl
 
 narrow_by_a_glitch : Breaks (checker 2 0) (run "000101111") true 0
 narrow_by_a_glitch = broken record { start = 3; end = 4; at = search found }
+
+-- ---- limits of edges are none of pulses
+
+other_limits : ¬ Breaks (element MinPulse (Edges 8 8) (on 0 ∷ [])) (run "00010000") true 0
+other_limits =
+    unbroken (no_width 3 4 refl (pulse_to 3 4 (omega arith) refl refl refl)
+    (λ at. omega (arith, at.narrow)))
 
 -- ---- other instances have no widths, and a missing one has none
 
