@@ -26,7 +26,8 @@ exceeds v wide = some_step v (λ before after. not (has wide before after))
 
 -- the first slot in which it does
 abbrev pub first_excess : ℕ → Folds → Folds → Option ℕ
-first_excess p found wide = first_some (λ s. if exceeds (found s) (wide s) then Some s else None) p 0
+first_excess p found wide =
+    first_some (λ s. if exceeds (found s) (wide s) then Some s else None) p 0
 
 abbrev pub fault_in : ℕ → Folds → ℕ → Fault
 fault_in i found s = Assertion i s (letter_of (found s))
@@ -34,4 +35,5 @@ fault_in i found s = Assertion i s (letter_of (found s))
 -- the fault of net i, which asserts this, by its wave
 unfoldable pub assertion_fault : Header → AssertSpec → ℕ → Wave Value → Option Fault
 assertion_fault h spec i w =
-    option_map (fault_in i (fold values w)) (first_excess (period h) (fold values w) (cell_at values (wide_wave h spec)))
+    option_map (fault_in i (fold values w))
+    (first_excess (period h) (fold values w) (cell_at values (wide_wave h spec)))

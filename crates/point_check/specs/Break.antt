@@ -147,8 +147,8 @@ Asserts (Stable spans) = ⊤
 abbrev pub wide_at : Header → AssertSpec → ℕ → Value
 wide_at h spec t = cell_at values (wide_wave h spec) (t % period h)
 
--- At this tick a net of the assertion keeps it: the step is one that the wide wave has in the tick's
--- slot. That is asked of each tick by itself, so another offset may explain another tick.
+-- At this tick a net of the assertion keeps it: the step is one that the wide wave has in the
+-- tick's slot. That is asked of each tick by itself, so another offset may explain another tick.
 abbrev pub KeepsAssertion : Header → AssertSpec → Signal → ℕ → Type 0
 KeepsAssertion h spec x t = has (wide_at h spec t) (x (t - 1)) (x t) ≡ true
 

@@ -27,7 +27,8 @@ IsPointChecker (Some j) = checks_points j.kind ≡ true
 -- the fault of checker k with these limits, by the waves at its clock and its input
 abbrev pub limited_fault : Circuit → Waves → ℕ → Instance → Limits → Option Fault
 limited_fault c ws k j limits =
-    checker_fault j.kind (period c.header) k (wave_of_pin (pin_waves c ws j) 0) (wave_of_pin (pin_waves c ws j) 1) limits
+    checker_fault j.kind (period c.header) k (wave_of_pin (pin_waves c ws j) 0)
+    (wave_of_pin (pin_waves c ws j) 1) limits
 
 abbrev pub limited_fault_of : Circuit → Waves → ℕ → Limits → Option Instance → Option Fault
 limited_fault_of c ws k limits None = None
@@ -74,11 +75,13 @@ fault_of_net c ws i (Some net) = fault_if_held (is_held net) c ws i net
 unfoldable pub net_fault : Circuit → Waves → ℕ → Option Fault
 net_fault c ws i = fault_of_net c ws i (slice_get c.nets i)
 
--- ---- all of them: those of instances in the order of expansion, and then those of nets in the order of names
+-- ---- all of them: those of instances in the order of expansion, and then those of nets in the
+-- order of names
 
 abbrev pub point_faults : Circuit → Waves → List Fault
 point_faults c ws =
-    filter_map (instance_fault c ws) (range_with_len 0 (length c.instances)) ++ filter_map (net_fault c ws) c.order
+    filter_map (instance_fault c ws) (range_with_len 0 (length c.instances))
+    ++ filter_map (net_fault c ws) c.order
 
 -- ---- whose a fault is
 

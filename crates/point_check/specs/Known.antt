@@ -10,7 +10,8 @@ use Rattle.point_check.specs.Faults.{instance_fault, net_fault}
 
 -- these are the faults of each instance and of each net in these waves, by their numbers
 pub record AreKnown (c : Circuit) (ws : Waves) (known : PointFaults) : Type 0 where
-  pub instances : known.instances ≡ map (instance_fault c ws) (range_with_len 0 (length c.instances))
+  pub instances : known.instances
+      ≡ map (instance_fault c ws) (range_with_len 0 (length c.instances))
   pub nets : known.nets ≡ map (net_fault c ws) (range_with_len 0 (length c.nets))
 
 -- waves of all nets, and the faults of each instance and of each net in them

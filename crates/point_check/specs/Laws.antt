@@ -7,9 +7,11 @@ use Rattle.flat_circuit.specs.declared.limits.Limits.TheVariants.{Edges}
 use Rattle.fixpoint_engine.specs.Waves.{Waves}
 use Rattle.point_check.specs.Faults.{limited_fault}
 
--- No fault goes where a setup or a hold time is longer: where there is none with the longer times, there is none.
+-- No fault goes where a setup or a hold time is longer: where there is none with the longer times,
+-- there is none.
 abbrev pub LongerTimesKeepFaults : Type 0
 LongerTimesKeepFaults =
     (c : Circuit) (ws : Waves) (k : ℕ) (j : Instance) (setup hold longer_setup longer_hold : ℕ) →
     1 ≤ period c.header → setup ≤ longer_setup → hold ≤ longer_hold →
-    limited_fault c ws k j (Edges longer_setup longer_hold) ≡ None → limited_fault c ws k j (Edges setup hold) ≡ None
+    limited_fault c ws k j (Edges longer_setup longer_hold) ≡ None →
+    limited_fault c ws k j (Edges setup hold) ≡ None

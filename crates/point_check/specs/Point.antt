@@ -17,7 +17,8 @@ use Rattle.point_check.specs.Window.{Folds, window_fault}
 
 -- ---- how long the clock may be high after a rise at slot t
 
--- The least j of 1 to p at which the clock can not stay at 1, j slots after t: by then it has fallen.
+-- The least j of 1 to p at which the clock can not stay at 1, j slots after t: by then it has
+-- fallen.
 abbrev pub first_low : ℕ → Folds → ℕ → Option ℕ
 first_low p clock t = first_some (λ j. if has (clock (t + j)) true true then None else Some j) p 1
 
@@ -32,7 +33,8 @@ last_fall clock t m = last_to (λ j. has (clock (t + j)) true false) m
 
 -- whether it may fall in some slot
 abbrev pub falls_somewhere : ℕ → Folds → Bool
-falls_somewhere p clock = is_some (first_some (λ s. if has (clock s) true false then Some s else None) p 0)
+falls_somewhere p clock =
+    is_some (first_some (λ s. if has (clock s) true false then Some s else None) p 0)
 
 -- ---- windows
 
@@ -46,7 +48,8 @@ to_last_fall limits None = None
 to_last_fall limits (Some high) =
     Some (record { setup = setup_of limits; high = high; hold = hold_of limits })
 
--- The clock may stay at 1 in every slot: then every slot is of the window, if a fall may come at all.
+-- The clock may stay at 1 in every slot: then every slot is of the window, if a fall may come at
+-- all.
 abbrev pub all_round : ℕ → Limits → Bool → Option Window
 all_round p limits falls =
     if falls then Some (record { setup = setup_of limits; high = p; hold = 0 }) else None
@@ -78,12 +81,15 @@ window_of kind p clock limits t = window_if (check_of kind) p clock limits t
 -- what an edge at slot t makes, where the clock may rise there
 abbrev pub edge_fault : Kind → ℕ → ℕ → Folds → Folds → Limits → ℕ → Option Fault
 edge_fault kind p k clock input limits t =
-    if has (clock t) false true then window_fault p k input t (window_of kind p clock limits t) else None
+    if has (clock t) false true then window_fault p k input t (window_of kind p clock limits t)
+    else None
 
 -- the first
 abbrev pub first_fault : Kind → ℕ → ℕ → Folds → Folds → Limits → Option Fault
 first_fault kind p k clock input limits = first_some (edge_fault kind p k clock input limits) p 0
 
--- the fault of checker k, of this kind and with these limits, in a period of p slots, by the waves at its clock and its input
+-- the fault of checker k, of this kind and with these limits, in a period of p slots, by the waves
+-- at its clock and its input
 unfoldable pub checker_fault : Kind → ℕ → ℕ → Wave Value → Wave Value → Limits → Option Fault
-checker_fault kind p k clock input limits = first_fault kind p k (fold values clock) (fold values input) limits
+checker_fault kind p k clock input limits =
+    first_fault kind p k (fold values clock) (fold values input) limits

@@ -1,4 +1,5 @@
--- The slots about an edge of a clock in which an input is to be quiet, and the first in which it is not.
+-- The slots about an edge of a clock in which an input is to be quiet, and the first in which it is
+-- not.
 use Rattle.std.specs.Prelude.{ℕ, ◌+◌, nat_lt, Option, Some, None, if◌then◌else◌}
 use Rattle.std.specs.Option.{option_map}
 use Rattle.scald_base.specs.Clock.{back}
@@ -19,13 +20,16 @@ Folds = ℕ → Value
 abbrev pub places : Window → ℕ
 places w = w.setup + w.high + w.hold
 
--- The slot at a place, from 0, of the window of an edge at slot t: from t - setup + 1 on, round the period.
+-- The slot at a place, from 0, of the window of an edge at slot t: from t - setup + 1 on, round the
+-- period.
 abbrev pub slot_at : ℕ → Window → ℕ → ℕ → ℕ
 slot_at p w t place = back p (t + 1 + place) w.setup
 
--- Up to the edge a place is of the setup time, then of the time while the clock may be high, and then of the hold time.
+-- Up to the edge a place is of the setup time, then of the time while the clock may be high, and
+-- then of the hold time.
 abbrev pub kind_at : Window → ℕ → PointKind
-kind_at w place = if nat_lt place w.setup then Setup else if nat_lt place (w.setup + w.high) then High else Hold
+kind_at w place =
+    if nat_lt place w.setup then Setup else if nat_lt place (w.setup + w.high) then High else Hold
 
 -- the place, where the input may change there
 abbrev pub mover_at : ℕ → Folds → Window → ℕ → ℕ → Option ℕ
@@ -37,7 +41,8 @@ first_mover p input w t = first_some (mover_at p input w t) (places w) 0
 
 -- the fault of instance k that an input makes at a place
 abbrev pub fault_at : ℕ → ℕ → Folds → Window → ℕ → ℕ → Fault
-fault_at p k input w t place = Point (kind_at w place) k t (slot_at p w t place) (letter_of (input (slot_at p w t place)))
+fault_at p k input w t place =
+    Point (kind_at w place) k t (slot_at p w t place) (letter_of (input (slot_at p w t place)))
 
 -- the fault of an edge at slot t that has this window, or none
 abbrev pub window_fault : ℕ → ℕ → Folds → ℕ → Option Window → Option Fault

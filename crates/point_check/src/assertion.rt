@@ -42,7 +42,8 @@ fn exceeds(v: Value, wide: Value) -> bool
 /// The first slot in which the one wave permits a step that the other does not.
 fn first_excess<W: CyclicWave<Item = Value>>(found: &W, wide: &W) -> Option<u16>
     requires { length (W.cells wide.now) ≡ length (W.cells found.now) }
-    ensures first { result ≡ excess (length (W.cells found.now)) (read (W.cells found.now)) (read (W.cells wide.now)) }
+    ensures first { result ≡ excess (length (W.cells found.now)) (read (W.cells found.now))
+        (read (W.cells wide.now)) }
     ensures within { IfSome result (λ slot. slot < length (W.cells found.now)) }
 {
     let mut slot = 0;

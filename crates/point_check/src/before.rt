@@ -42,8 +42,8 @@ fn have_one_wave_at<W: CyclicWave<Item = Value>>(
     true
 }
 
-/// The fault that the instance of a number had before, where it has the same waves at its pins: it has
-/// the same fault then.
+/// The fault that the instance of a number had before, where it has the same waves at its pins: it
+/// has the same fault then.
 pub fn instance_before<W: CyclicWave<Item = Value>>(
     c: &Circuit,
     before: &Before<W>,

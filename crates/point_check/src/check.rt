@@ -60,8 +60,9 @@ fn fault_by_kind<W: CyclicWave<Item = Value>>(
     }
 }
 
-/// The fault of the instance of a number, if it has one. Most instances have nothing to check, and are
-/// asked no more than that. Where the fault is known from before, the instance is not checked again.
+/// The fault of the instance of a number, if it has one. Most instances have nothing to check, and
+/// are asked no more than that. Where the fault is known from before, the instance is not checked
+/// again.
 #[inline(always)]
 pub fn instance_fault<W: CyclicWave<Item = Value>>(
     alloc: Global,
@@ -141,7 +142,8 @@ fn instance_faults<W: CyclicWave<Item = Value>>(
 ) -> Result<Faults, NoMemory>
     requires before { IfSome before.now (λ b. AreChecked c.now b.waves.now b.known.now) }
     requires fit { FitWaves c.now waves.now }
-    ensures { IfOk result (λ faults. faults ≡ filter_map (fault_of_instance c.now (waves_of waves.now))
+    ensures { IfOk result (λ faults.
+        faults ≡ filter_map (fault_of_instance c.now (waves_of waves.now))
         (range_with_len 0 (length c.now.instances))) }
 {
     let mut faults = Faults::new(alloc);
@@ -164,7 +166,8 @@ fn add_net_faults<W: CyclicWave<Item = Value>>(
     requires before { IfSome before.now (λ b. AreChecked c.now b.waves.now b.known.now) }
     requires fit { FitWaves c.now waves.now }
     ensures { OnOk result
-        (faults.new ≡ faults.old ++ filter_map (fault_of_net c.now (waves_of waves.now)) c.now.order) }
+        (faults.new ≡ faults.old ++ filter_map
+        (fault_of_net c.now (waves_of waves.now)) c.now.order) }
 {
     c.known();
     for place in 0..c.net_count() {
@@ -194,9 +197,9 @@ fn all_faults<W: CyclicWave<Item = Value>>(
 }
 
 /// The faults that these settled waves of all nets show: of setup and hold, of rise and fall and of
-/// marked pins by the order of expansion, and then of assertions by the order of names. What the waves
-/// permit from a tick on breaks no constraint of an instance, and no assertion of a driven net, from
-/// there on, where the answer has no fault of it.
+/// marked pins by the order of expansion, and then of assertions by the order of names. What the
+/// waves permit from a tick on breaks no constraint of an instance, and no assertion of a driven
+/// net, from there on, where the answer has no fault of it.
 pub fn check_points<W: CyclicWave<Item = Value>>(
     alloc: Global,
     c: &Circuit,
@@ -209,8 +212,8 @@ pub fn check_points<W: CyclicWave<Item = Value>>(
     all_faults(alloc, c, &None, waves)
 }
 
-/// What [`check_points`] answers for these waves, where the fault of each instance and of each net in
-/// others is known. What has the same waves in both is not checked again.
+/// What [`check_points`] answers for these waves, where the fault of each instance and of each net
+/// in others is known. What has the same waves in both is not checked again.
 pub fn check_points_again<W: CyclicWave<Item = Value>>(
     alloc: Global,
     c: &Circuit,

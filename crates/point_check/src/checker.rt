@@ -73,8 +73,8 @@ fn checker_fault<W: CyclicWave<Item = Value>>(
     Ok(found)
 }
 
-/// The fault of a checker with these pins, which is not worked out where the last one asked the same
-/// of the same waves.
+/// The fault of a checker with these pins, which is not worked out where the last one asked the
+/// same of the same waves.
 fn fault_once<W: CyclicWave<Item = Value>>(
     alloc: Global,
     recent: &mut Recent<W>,

@@ -41,7 +41,8 @@ fn kind_at(window: Window, place: u16) -> PointKind
     }
 }
 
-/// The fault of an edge that has this window: of the first place of it at which the input may change.
+/// The fault of an edge that has this window: of the first place of it at which the input may
+/// change.
 fn window_fault<W: CyclicWave<Item = Value>>(
     input: &W,
     instance: u32,
@@ -74,7 +75,8 @@ fn window_fault<W: CyclicWave<Item = Value>>(
 /// After how many slots, 1 to a period, the clock can first not stay at 1.
 fn first_low<W: CyclicWave<Item = Value>>(clock: &W, edge: u16) -> Option<u16>
     requires { edge < length (W.cells clock.now) }
-    ensures first { result ≡ low_after (length (W.cells clock.now)) (read (W.cells clock.now)) edge }
+    ensures first { result ≡ low_after (length (W.cells clock.now))
+        (read (W.cells clock.now)) edge }
     ensures within { IfSome result (λ low. low ≤ length (W.cells clock.now)) }
 {
     let period = clock.period();
@@ -107,7 +109,8 @@ fn last_fall<W: CyclicWave<Item = Value>>(clock: &W, edge: u16, low: u16) -> Opt
     last
 }
 
-/// The window where the clock may stay at 1 for ever: the whole period, or none where it can not fall.
+/// The window where the clock may stay at 1 for ever: the whole period, or none where it can not
+/// fall.
 fn all_round<W: CyclicWave<Item = Value>>(clock: &W, limits: Limits) -> Option<Window>
     requires { setup_of limits + hold_of limits ≤ length (W.cells clock.now) }
     ensures window { result ≡ window_all_round (length (W.cells clock.now))
@@ -125,16 +128,13 @@ fn all_round<W: CyclicWave<Item = Value>>(clock: &W, limits: Limits) -> Option<W
     }
 }
 
-/// From before a rise to after the last fall after it; the whole period where the clock may stay at 1
-/// for ever, and no window where it can not fall.
-fn high_window<W: CyclicWave<Item = Value>>(
-    clock: &W,
-    limits: Limits,
-    edge: u16,
-) -> Option<Window>
+/// From before a rise to after the last fall after it; the whole period where the clock may stay at
+/// 1 for ever, and no window where it can not fall.
+fn high_window<W: CyclicWave<Item = Value>>(clock: &W, limits: Limits, edge: u16) -> Option<Window>
     requires edge { edge < length (W.cells clock.now) }
     requires limits { setup_of limits + hold_of limits ≤ length (W.cells clock.now) }
-    ensures window { result ≡ window_of_rise (length (W.cells clock.now)) (read (W.cells clock.now)) limits edge }
+    ensures window { result ≡ window_of_rise (length (W.cells clock.now))
+        (read (W.cells clock.now)) limits edge }
     ensures fits { IfSome result (WindowFits (length (W.cells clock.now))) }
 {
     match first_low(clock, edge) {
@@ -183,7 +183,8 @@ fn window_of<W: CyclicWave<Item = Value>>(
 ) -> Option<Window>
     requires edge { edge < length (W.cells clock.now) }
     requires limits { setup_of limits + hold_of limits ≤ length (W.cells clock.now) }
-    ensures window { result ≡ window_by_kind kind (length (W.cells clock.now)) (read (W.cells clock.now)) limits edge }
+    ensures window { result ≡ window_by_kind kind (length (W.cells clock.now))
+        (read (W.cells clock.now)) limits edge }
     ensures fits { IfSome result (WindowFits (length (W.cells clock.now))) }
 {
     match kind.check() {
@@ -231,7 +232,8 @@ fn next_edge<W: CyclicWave<Item = Value>>(clock: &W, from: u16) -> u16
     }
 }
 
-/// The fault of a checker by the folds of its clock and its input: that of the first edge that has one.
+/// The fault of a checker by the folds of its clock and its input: that of the first edge that has
+/// one.
 pub fn first_fault<W: CyclicWave<Item = Value>>(
     kind: Kind,
     instance: u32,

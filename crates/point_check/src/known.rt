@@ -15,7 +15,8 @@ use std::alloc::Global;
 use step_values::Value;
 use wave_core::CyclicWave;
 
-/// The fault of each instance and of each net in some waves, by their numbers, or `None` where it has none.
+/// The fault of each instance and of each net in some waves, by their numbers, or `None` where it
+/// has none.
 #[derive(Drop)]
 pub struct PointFaults {
     pub instances: List<Option<Fault>>,
@@ -30,7 +31,8 @@ fn known_instances<W: CyclicWave<Item = Value>>(
 ) -> Result<List<Option<Fault>>, NoMemory>
     requires { FitWaves c.now waves.now }
     ensures { IfOk result (λ known.
-        known ≡ map (fault_of_instance c.now (waves_of waves.now)) (range_with_len 0 (length c.now.instances))) }
+        known ≡ map (fault_of_instance c.now (waves_of waves.now))
+        (range_with_len 0 (length c.now.instances))) }
 {
     let mut known = List::new(alloc);
     let mut recent = Recent::new();
@@ -49,7 +51,8 @@ fn known_nets<W: CyclicWave<Item = Value>>(
 ) -> Result<List<Option<Fault>>, NoMemory>
     requires { FitWaves c.now waves.now }
     ensures { IfOk result (λ known.
-        known ≡ map (fault_of_net c.now (waves_of waves.now)) (range_with_len 0 (length c.now.nets))) }
+        known ≡ map (fault_of_net c.now (waves_of waves.now))
+        (range_with_len 0 (length c.now.nets))) }
 {
     let mut known = List::new(alloc);
     for number in 0..c.net_count() {

@@ -1,5 +1,5 @@
-//! The last checker that was held against its clock: the checkers of a vector mostly ask the same of
-//! the same waves.
+//! The last checker that was held against its clock: the checkers of a vector mostly ask the same
+//! of the same waves.
 
 ghost use Rattle.std.specs.Prelude.{◌≡◌, ℕ, IfOk, IfSome, IsTrue, length};
 ghost use Rattle.std.specs.Option.{option_map};
@@ -26,8 +26,8 @@ pub struct Constraint {
     pub limits: Limits,
 }
 
-/// The wave of the net that a pin is on, with the bounds of the wire that leads from there, in ticks,
-/// and whether the pin shows the complement.
+/// The wave of the net that a pin is on, with the bounds of the wire that leads from there, in
+/// ticks, and whether the pin shows the complement.
 #[derive(Drop)]
 pub struct Shown<W: CyclicWave<Item = Value>> {
     wave: Skewed<W>,
@@ -91,7 +91,8 @@ struct Checked<W: CyclicWave<Item = Value>> {
     clock: Shown<W>,
     input: Shown<W>,
     found: Option<Fault>,
-    ghost is: { (k : ℕ) → option_map (fault_for k) found ≡ fault_of_checker asked.kind (length clock.wave.cells) k
+    ghost is: { (k : ℕ) → option_map (fault_for k) found
+        ≡ fault_of_checker asked.kind (length clock.wave.cells) k
         (wave_behind clock.wave clock.wire clock.inverted)
         (wave_behind input.wave input.wire input.inverted) asked.limits },
 }
@@ -180,7 +181,8 @@ impl<W: CyclicWave<Item = Value>> LastCheck<W> {
         LastCheck { kept: None }
     }
 
-    /// The fault of a checker with these pins, where it asks the same of the same waves as the last one.
+    /// The fault of a checker with these pins, where it asks the same of the same waves as the last
+    /// one.
     #[tactic(auto, using(crate::proofs::Again::found_is))]
     pub fn found(
         &self,

@@ -1,11 +1,15 @@
-//! Faults at the points of a circuit where something is to stay as it is: an input about the edges of a
-//! clock, the pins beside a marked one, and a driven net that is held to what its name asserts.
+//! Faults at the points of a circuit where something is to stay as it is: an input about the edges
+//! of a clock, the pins beside a marked one, and a driven net that is held to what its name
+//! asserts.
 //!
-//! The layer above calls [`check_points`] for the faults of all settled waves, [`check_points_again`] for those
-//! of further waves, where [`known_points`] were worked out once, and [`point_fault`] for what a checker finds
-//! with other limits. `specs/Faults` says which faults come, in which order:
-//! `specs/Point` those of checkers, over the windows of `specs/Window`, `specs/Assertion` those of nets.
-//! `specs/Break` says what a run breaks, and `specs/Sound` that nothing breaks where there is no fault.
+//! The layer above calls [`check_points`] for the faults of all settled waves,
+//! [`check_points_again`] for those of further waves, where [`known_points`] were worked out once,
+//! and [`point_fault`] for what a checker finds with other limits. `specs/Faults` says which faults
+//! come, in which order:
+//! `specs/Point` those of checkers, over the windows of `specs/Window`, `specs/Assertion` those of
+//! nets.
+//! `specs/Break` says what a run breaks, and `specs/Sound` that nothing breaks where there is no
+//! fault.
 #![tactic(auto)]
 
 // an input about the edges of a clock

@@ -20,8 +20,8 @@ pub fn marked_pin(gate: &Instance) -> Option<usize>
     gate.pins.as_slice().iter().position(|pin| pin.hold)
 }
 
-/// The hazard of a gate, where a pin of it is marked: another pin may change while the marked one lets
-/// it through.
+/// The hazard of a gate, where a pin of it is marked: another pin may change while the marked one
+/// lets it through.
 pub fn mark_fault<W: CyclicWave<Item = Value>>(
     alloc: Global,
     c: &Circuit,

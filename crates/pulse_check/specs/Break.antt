@@ -1,5 +1,5 @@
--- Pulses of a run that are narrower than a checker asks for: at ticks of the run, with no period and
--- no wave.
+-- Pulses of a run that are narrower than a checker asks for: at ticks of the run, with no period
+-- and no wave.
 use Rattle.std.specs.Prelude.{◌≡◌, ℕ, ◌+◌, ◌-◌, ◌<◌, ◌≤◌, Bool, true, false, not, slice_get, Some}
 use Rattle.scald_base.specs.Signal.{Signal}
 use Rattle.element_kinds.specs.declared.kind.Kind.{Kind}
@@ -43,7 +43,8 @@ BreaksMeasured true run j choice level from = BreaksWidth run j choice level fro
 BreaksMeasured false run j choice level from = ⊥
 
 abbrev pub BreaksKind : Kind → Run → Instance → Choice → Bool → ℕ → Type 0
-BreaksKind kind run j choice level from = BreaksMeasured (checks_pulses kind) run j choice level from
+BreaksKind kind run j choice level from =
+    BreaksMeasured (checks_pulses kind) run j choice level from
 
 -- instance k has a pulse at the level that is too narrow, at ticks from a given one on
 pub record BreaksPulse (c : Circuit) (run : Run) (k : ℕ) (level : Bool) (from : ℕ) : Type 0 where

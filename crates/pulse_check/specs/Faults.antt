@@ -20,9 +20,11 @@ use Rattle.pulse_check.specs.Pulse.{first_narrow}
 abbrev pub fault_at : ℕ → Bool → ℕ × ℕ → Fault
 fault_at k level found = Width k level found.0 found.1
 
--- the fault of checker k's high pulses, or its low ones, with this least width, by the wave at its pin
+-- the fault of checker k's high pulses, or its low ones, with this least width, by the wave at its
+-- pin
 unfoldable pub width_fault : ℕ → ℕ → Wave Value → Bool → ℕ → Option Fault
-width_fault period k wave level limit = option_map (fault_at k level) (first_narrow period level (read wave.cells) limit)
+width_fault period k wave level limit =
+    option_map (fault_at k level) (first_narrow period level (read wave.cells) limit)
 
 abbrev pub pin_of : Circuit → Waves → Instance → Wave Value
 pin_of c ws j = wave_of_pin (pin_waves c ws j) 0
@@ -50,7 +52,8 @@ listed (Some fault) = fault ∷ []
 -- Those of a checker that measures pulses.
 abbrev pub faults_by : Bool → Circuit → Waves → ℕ → Instance → List Fault
 faults_by true c ws k j =
-    listed (limited_fault c ws k j true (high_of j.limits)) ++ listed (limited_fault c ws k j false (low_of j.limits))
+    listed (limited_fault c ws k j true (high_of j.limits))
+    ++ listed (limited_fault c ws k j false (low_of j.limits))
 faults_by false c ws k j = []
 
 abbrev pub faults_by_kind : Kind → Circuit → Waves → ℕ → Instance → List Fault

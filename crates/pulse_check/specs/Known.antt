@@ -12,4 +12,5 @@ use Rattle.pulse_check.specs.Faults.{instance_faults}
 pub record AreChecked (c : Circuit) (waves : List (Wave Value)) (found : List (List Fault)) : Type 0
   where
     pub fit : FitWaves c waves
-    pub known : found ≡ map (instance_faults c (waves_of waves)) (range_with_len 0 (length c.instances))
+    pub known : found ≡ map (instance_faults c (waves_of waves))
+        (range_with_len 0 (length c.instances))

@@ -5,8 +5,10 @@ use Rattle.flat_circuit.specs.Circuit.{Circuit}
 use Rattle.fixpoint_engine.specs.Waves.{Waves}
 use Rattle.pulse_check.specs.Faults.{limited_fault}
 
--- No fault goes where a greater width is asked for: where there is none with the greater one, there is none.
+-- No fault goes where a greater width is asked for: where there is none with the greater one, there
+-- is none.
 abbrev pub GreaterWidthsKeepFaults : Type 0
 GreaterWidthsKeepFaults =
-    (c : Circuit) (ws : Waves) (k : ℕ) (j : Instance) (level : Bool) (width greater : ℕ) → width ≤ greater →
+    (c : Circuit) (ws : Waves) (k : ℕ) (j : Instance) (level : Bool) (width greater : ℕ) →
+    width ≤ greater →
     limited_fault c ws k j level greater ≡ None → limited_fault c ws k j level width ≡ None

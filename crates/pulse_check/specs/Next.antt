@@ -2,7 +2,8 @@
 use Rattle.std.specs.Prelude.{◌≡◌, ℕ, ◌<◌, ◌≤◌, Bool, true, false}
 use Rattle.pulse_check.specs.Pulse.{Slots, may_begin}
 
--- From a slot on no pulse at the level may begin before this one, which is a slot of the period in which one may, or the period's end.
+-- From a slot on no pulse at the level may begin before this one, which is a slot of the period in
+-- which one may, or the period's end.
 pub record IsNextStart (level : Bool) (wave : Slots) (from p next : ℕ) : Type 0 where
   pub after : from ≤ next
   pub within : next ≤ p

@@ -1,5 +1,5 @@
--- Pulses that may be narrow, read off a wave as it is. All slots of a wave are late together, so a pulse keeps its width
--- however late it comes, and no fold is taken.
+-- Pulses that may be narrow, read off a wave as it is. All slots of a wave are late together, so a
+-- pulse keeps its width however late it comes, and no fold is taken.
 use Rattle.std.specs.Prelude.{ℕ, zero, suc, ◌+◌, ◌-◌, Bool, true, not, ◌&&◌, Option, Some, None, if◌then◌else◌}
 use Rattle.std.specs.Option.{option_map}
 use Rattle.step_values.specs.declared.value.Value.{Value}
@@ -27,16 +27,20 @@ lasts_for level wave slot (suc n) = may_last level (wave slot) && lasts_for leve
 
 -- a pulse that begins in slot a may end in slot a + width, and goes on in each slot between
 abbrev pub may_be_wide : Bool → Slots → ℕ → ℕ → Bool
-may_be_wide level wave a width = may_end level (wave (a + width)) && lasts_for level wave (a + 1) (width - 1)
+may_be_wide level wave a width =
+    may_end level (wave (a + width)) && lasts_for level wave (a + 1) (width - 1)
 
 -- the least width below the limit that a pulse may have that begins in slot a
 abbrev pub least_width : Bool → Slots → ℕ → ℕ → Option ℕ
-least_width level wave limit a = first_some (λ width. if may_be_wide level wave a width then Some width else None) (limit - 1) 1
+least_width level wave limit a =
+    first_some (λ width. if may_be_wide level wave a width then Some width else None) (limit - 1) 1
 
--- the first slot in which a pulse may begin that is narrower than the limit, and the least width of such a pulse
+-- the first slot in which a pulse may begin that is narrower than the limit, and the least width of
+-- such a pulse
 abbrev pub narrow_at : Bool → Slots → ℕ → ℕ → Option (ℕ × ℕ)
 narrow_at level wave limit a =
-    if may_begin level (wave a) then option_map (λ width. (a, width)) (least_width level wave limit a) else None
+    if may_begin level (wave a)
+    then option_map (λ width. (a, width)) (least_width level wave limit a) else None
 
 abbrev pub first_narrow : ℕ → Bool → Slots → ℕ → Option (ℕ × ℕ)
 first_narrow period level wave limit = first_some (narrow_at level wave limit) period 0

@@ -32,14 +32,15 @@ fn is_checked_as_before<W: CyclicWave<Item = Value>>(
     requires before { FitWaves c.now before.now }
     requires fit { FitWaves c.now waves.now }
     ensures { IsTrue result →
-        pin_of c.now (waves_of before.now) checker.now ≡ pin_of c.now (waves_of waves.now) checker.now }
+        pin_of c.now (waves_of before.now) checker.now
+        ≡ pin_of c.now (waves_of waves.now) checker.now }
 {
     let pins = checker.pins.as_slice();
     has_one_wave_at(c, before, waves, pins[0])
 }
 
-/// The faults that the checker of a number had before, where its pin is on the same wave: it has the
-/// same faults then.
+/// The faults that the checker of a number had before, where its pin is on the same wave: it has
+/// the same faults then.
 pub fn faults_before<'a, W: CyclicWave<Item = Value>>(
     c: &Circuit,
     before: &'a Before<'a, W>,
@@ -51,7 +52,8 @@ pub fn faults_before<'a, W: CyclicWave<Item = Value>>(
     requires at { Some checker.now ≡ slice_get c.now.instances number }
     requires before { AreChecked c.now before.now.waves.now before.now.known.now }
     requires fit { FitWaves c.now waves.now }
-    ensures { IfSome result (λ found. found.now ≡ instance_faults c.now (waves_of waves.now) number) }
+    ensures { IfSome result (λ found.
+        found.now ≡ instance_faults c.now (waves_of waves.now) number) }
 {
     c.known();
     if !is_checked_as_before(c, before.waves, waves, checker) {

@@ -17,8 +17,9 @@ use std::alloc::Global;
 use step_values::Value;
 use wave_core::CyclicWave;
 
-/// Appends the faults of the instance of a number. Most instances are no checkers of pulses, and are
-/// asked no more than that. Where the faults are known from before, the instance is not checked again.
+/// Appends the faults of the instance of a number. Most instances are no checkers of pulses, and
+/// are asked no more than that. Where the faults are known from before, the instance is not checked
+/// again.
 #[inline(always)]
 pub fn add_faults<W: CyclicWave<Item = Value>>(
     faults: &mut Faults,
@@ -30,7 +31,8 @@ pub fn add_faults<W: CyclicWave<Item = Value>>(
 ) -> Result<(), NoMemory>
     requires before { IfSome before.now (λ b. AreChecked c.now b.waves.now b.known.now) }
     requires fit { FitWaves c.now waves.now }
-    ensures { OnOk result (faults.new ≡ faults.old ++ instance_faults c.now (waves_of waves.now) number) }
+    ensures { OnOk result (faults.new
+        ≡ faults.old ++ instance_faults c.now (waves_of waves.now) number) }
 {
     c.known();
     let Some(instance) = c.instance(number) else {
@@ -69,9 +71,9 @@ fn all_faults<W: CyclicWave<Item = Value>>(
 }
 
 /// The faults that these settled waves of all nets show: pulses that may be narrower than a checker
-/// asks for, by the order of expansion, of each checker that of its high pulses and then that of its low
-/// ones. What the waves permit from a tick on has no narrow pulse from there on, where the answer has no
-/// fault of it.
+/// asks for, by the order of expansion, of each checker that of its high pulses and then that of
+/// its low ones. What the waves permit from a tick on has no narrow pulse from there on, where the
+/// answer has no fault of it.
 pub fn check_pulses<W: CyclicWave<Item = Value>>(
     alloc: Global,
     c: &Circuit,

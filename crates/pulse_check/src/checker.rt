@@ -54,9 +54,9 @@ pub fn checked_wave<W: CyclicWave<Item = Value>>(
     pin_wave(alloc, c, waves, pins[0])
 }
 
-/// The fault that a `MIN_PULSE_CHK` has of its high pulses, or of its low ones, with this least width, in
-/// slots, in place of its own: the first slot in which a narrower pulse may begin, and the least width of
-/// such a pulse. `None` exactly where there is none.
+/// The fault that a `MIN_PULSE_CHK` has of its high pulses, or of its low ones, with this least
+/// width, in slots, in place of its own: the first slot in which a narrower pulse may begin, and
+/// the least width of such a pulse. `None` exactly where there is none.
 pub fn width_fault<W: CyclicWave<Item = Value>>(
     alloc: Global,
     c: &Circuit,
@@ -68,7 +68,8 @@ pub fn width_fault<W: CyclicWave<Item = Value>>(
     requires checker { IsPulseChecker (slice_get c.now.instances instance) }
     requires limit { width ≤ period c.now.header }
     requires fit { FitWaves c.now waves.now }
-    ensures { IfOk result (λ found. found ≡ limited_fault_at c.now (waves_of waves.now) instance high width) }
+    ensures { IfOk result (λ found.
+        found ≡ limited_fault_at c.now (waves_of waves.now) instance high width) }
 {
     c.known();
     match c.instance(instance) {
@@ -93,7 +94,8 @@ pub fn add_checker_faults<W: CyclicWave<Item = Value>>(
     requires fits { InstanceFits c.now.header (length c.now.nets) checker.now }
     requires fit { FitWaves c.now waves.now }
     ensures { OnOk result
-        (faults.new ≡ faults.old ++ faults_by_kind checker.now.kind c.now (waves_of waves.now) number checker.now) }
+        (faults.new ≡ faults.old ++ faults_by_kind checker.now.kind c.now
+        (waves_of waves.now) number checker.now) }
 {
     let wave = checked_wave(alloc, c, waves, checker)?;
     if let Some(fault) = fault_in(&wave, number, true, checker.limits.high()) {

@@ -13,7 +13,8 @@ use std::alloc::Global;
 use step_values::Value;
 use wave_core::CyclicWave;
 
-/// The faults of each instance in some waves, by its number. Those without a fault take no memory of their own.
+/// The faults of each instance in some waves, by its number. Those without a fault take no memory
+/// of their own.
 pub type PulseFaults = List<Faults>;
 
 /// The faults of each instance that these settled waves of all nets show.
@@ -24,7 +25,8 @@ pub fn known_pulses<W: CyclicWave<Item = Value>>(
 ) -> Result<PulseFaults, NoMemory>
     requires { FitWaves c.now waves.now }
     ensures { IfOk result (λ known.
-        known ≡ map (instance_faults c.now (waves_of waves.now)) (range_with_len 0 (length c.now.instances))) }
+        known ≡ map (instance_faults c.now (waves_of waves.now))
+        (range_with_len 0 (length c.now.instances))) }
 {
     let mut known = PulseFaults::new(alloc);
     for number in 0..c.instance_count() {

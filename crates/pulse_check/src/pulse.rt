@@ -65,7 +65,8 @@ fn least_width<W: CyclicWave<Item = Value>>(
     None
 }
 
-/// The least width below the limit of a pulse at the level that may begin in this slot, with the slot.
+/// The least width below the limit of a pulse at the level that may begin in this slot, with the
+/// slot.
 fn narrow_at<W: CyclicWave<Item = Value>>(
     wave: &W,
     level: bool,
@@ -85,8 +86,8 @@ fn narrow_at<W: CyclicWave<Item = Value>>(
     }
 }
 
-/// The first slot from this one on in which a pulse at the level may begin, or the period where there
-/// is none.
+/// The first slot from this one on in which a pulse at the level may begin, or the period where
+/// there is none.
 fn next_start<W: CyclicWave<Item = Value>>(wave: &W, level: bool, from: u16) -> u16
     requires { from ≤ length (W.cells wave.now) }
     ensures { IsNextStart level (read (W.cells wave.now)) from (length (W.cells wave.now)) result }
@@ -102,15 +103,16 @@ fn next_start<W: CyclicWave<Item = Value>>(wave: &W, level: bool, from: u16) -> 
     period
 }
 
-/// The first slot in which a pulse at the level may begin that is narrower than the limit, and the least
-/// width of such a pulse.
+/// The first slot in which a pulse at the level may begin that is narrower than the limit, and the
+/// least width of such a pulse.
 pub fn first_narrow<W: CyclicWave<Item = Value>>(
     wave: &W,
     level: bool,
     limit: u16,
 ) -> Option<(u16, u16)>
     requires { limit ≤ length (W.cells wave.now) }
-    ensures { result ≡ narrow_pulse (length (W.cells wave.now)) level (read (W.cells wave.now)) limit }
+    ensures { result ≡ narrow_pulse (length (W.cells wave.now)) level
+        (read (W.cells wave.now)) limit }
 {
     let mut start = 0;
     'starts: while start < wave.period() {
