@@ -140,13 +140,13 @@ nets_set es i w h = record {
 
 -- ---- assertions
 
-abbrev pub Entry : Type 0
-Entry = Vec ℕ × AssertSpec
+abbrev pub SpecEntry : Type 0
+SpecEntry = Vec ℕ × AssertSpec
 
 abbrev pub text_test : List ℕ → Vec ℕ → Bool
 text_test text k = bytes_eq text k.items
 
-pub spec_some : (es : List Entry) (text : List ℕ) (spec : AssertSpec) → Some spec ≡ lookup (text_test text) es → spec_of (asserted_entries es) text ≡ spec
+pub spec_some : (es : List SpecEntry) (text : List ℕ) (spec : AssertSpec) → Some spec ≡ lookup (text_test text) es → spec_of (asserted_entries es) text ≡ spec
 spec_some [] text spec h = absurd (cc)
 spec_some (e ∷ es) text spec h = step (text_test text e.0) h (spec_some es text spec) where
   step : (b : Bool) → Some spec ≡ cond b (Some e.1) (lookup (text_test text) es) →
@@ -154,7 +154,7 @@ spec_some (e ∷ es) text spec h = step (text_test text e.0) h (spec_some es tex
   step true q more = cc
   step false q more = more q
 
-pub spec_none : (es : List Entry) (text : List ℕ) → None ≡ lookup (text_test text) es → spec_of (asserted_entries es) text ≡ Unasserted
+pub spec_none : (es : List SpecEntry) (text : List ℕ) → None ≡ lookup (text_test text) es → spec_of (asserted_entries es) text ≡ Unasserted
 spec_none [] text h = refl
 spec_none (e ∷ es) text h = step (text_test text e.0) h (spec_none es text) where
   step : (b : Bool) → None ≡ cond b (Some e.1) (lookup (text_test text) es) → (None ≡ lookup (text_test text) es →
@@ -162,27 +162,27 @@ spec_none (e ∷ es) text h = step (text_test text e.0) h (spec_none es text) wh
   step true q more = absurd (cc)
   step false q more = more q
 
-pub has_entry : (es : List Entry) (text : List ℕ) → is_some (lookup (text_test text) es) ≡ has_text (asserted_entries es) text
-has_entry [] text = refl
-has_entry (e ∷ es) text = step (text_test text e.0) (has_entry es text) where
+pub has_spec : (es : List SpecEntry) (text : List ℕ) → is_some (lookup (text_test text) es) ≡ has_text (asserted_entries es) text
+has_spec [] text = refl
+has_spec (e ∷ es) text = step (text_test text e.0) (has_spec es text) where
   step : (b : Bool) → is_some (lookup (text_test text) es) ≡ has_text (asserted_entries es) text →
       is_some (cond b (Some e.1) (lookup (text_test text) es))
       ≡ (b || has_text (asserted_entries es) text)
   step true h = refl
   step false h = h
 
-pub entry_new : (es : List Entry) (k : Vec ℕ) (spec : AssertSpec) → has_text (asserted_entries es) k.items ≡ false →
+pub spec_new : (es : List SpecEntry) (k : Vec ℕ) (spec : AssertSpec) → has_text (asserted_entries es) k.items ≡ false →
     insert_entry (λ (x y : Vec ℕ). bytes_eq x.items y.items) es k spec ≡ es ++ (k, spec) ∷ []
-entry_new [] k spec h = refl
-entry_new (e ∷ es) k spec h = step (text_test k.items e.0) h (entry_new es k spec) where
+spec_new [] k spec h = refl
+spec_new (e ∷ es) k spec h = step (text_test k.items e.0) h (spec_new es k spec) where
   step : (b : Bool) → (b || has_text (asserted_entries es) k.items) ≡ false →
       (has_text (asserted_entries es) k.items ≡ false → insert_entry (λ (x y : Vec ℕ). bytes_eq x.items y.items) es k spec ≡ es ++ (k, spec) ∷ []) →
       cond b ((e.0, spec) ∷ es) (e ∷ insert_entry (λ (x y : Vec ℕ). bytes_eq x.items y.items) es k spec) ≡ e ∷ (es ++ (k, spec) ∷ [])
   step true q more = absurd (cc)
   step false q more = ap (λ x. e ∷ x) (more q)
 
-pub asserted_push : (es : List Entry) (k : Vec ℕ) (spec : AssertSpec) → asserted_entries (es ++ (k, spec) ∷ []) ≡ asserted_entries es ++ record { text = k.items; spec = spec } ∷ []
-asserted_push es k spec = map_push (λ (p : Entry). let a : Asserted = record { text = p.0.items; spec = p.1 } in a) es (k, spec)
+pub asserted_push : (es : List SpecEntry) (k : Vec ℕ) (spec : AssertSpec) → asserted_entries (es ++ (k, spec) ∷ []) ≡ asserted_entries es ++ record { text = k.items; spec = spec } ∷ []
+asserted_push es k spec = map_push (λ (p : SpecEntry). let a : Asserted = record { text = p.0.items; spec = p.1 } in a) es (k, spec)
 
 pub with_new : (given : List Asserted) (text : List ℕ) (spec : AssertSpec) → is_asserted spec ≡ true →
     has_text given text ≡ false → with_asserted given text spec ≡ given ++ record { text = text; spec = spec } ∷ []
