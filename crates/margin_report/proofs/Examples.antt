@@ -146,7 +146,7 @@ no_hold : own_faults (circuit edge) (case 0 in_5).waves 0 Hold ≡ []
 unfolding instance_fault checker_fault moved normal back earlier
 no_hold = refl
 
-one_limit_more : map (λ parameter. (with_value edge parameter 5).limits) (Setup ∷ Hold ∷ High ∷ Low ∷ []) 
+one_limit_more : map (λ parameter. (with_value edge parameter 5).limits) (Setup ∷ Hold ∷ High ∷ Low ∷ [])
     ≡ Edges 5 1 ∷ Edges 1 5 ∷ Pulses 5 0 ∷ Pulses 0 5 ∷ []
 one_limit_more = refl
 
