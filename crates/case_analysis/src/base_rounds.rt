@@ -125,12 +125,13 @@ pub fn default_limit(c: &Circuit) -> u32
     outputs + 4 * u32::from(c.header().period()) + 16
 }
 
-/// The base: from the assertions of the nets that nothing drives, and nothing known of the others, rounds
-/// over all driven nets until a round is as the one before, by one net of each class where there are
-/// classes. The settled waves permit every run whose inputs keep their assertions, `reach` ticks a round
-/// later. `Unsettled` comes exactly where no round up to `limit` is as the next one: never where no net is
-/// reached from itself through listening pins and the limit is not below the number of instances with an
-/// output. The waves are answered by their numbers in the store.
+/// The base: from the assertions of the nets that nothing drives, and nothing known of the others,
+/// rounds over all driven nets until a round is as the one before, by one net of each class where
+/// there are classes. The settled waves permit every run whose inputs keep their assertions,
+/// `reach` ticks a round later. `Unsettled` comes exactly where no round up to `limit` is as the
+/// next one: never where no net is reached from itself through listening pins and the limit is not
+/// below the number of instances with an output. The waves are answered by their numbers in the
+/// store.
 pub fn base<W: CyclicWave<Item = Value>>(
     alloc: Global,
     c: &Circuit,
@@ -146,9 +147,11 @@ pub fn base<W: CyclicWave<Item = Value>>(
         IsBase c.now limit s.rounds (waves_of (waves_at store.new s.numbers))) }
     ensures within { IfOk result (λ s. s.rounds ≤ limit) }
     ensures fit { IfOk result (λ s. FitWaves c.now (waves_at store.new s.numbers)) }
-    ensures work { IfOk result (λ s. s.evals
-        ≡ evaluations_to classes.now.nets c.now (is_driven c.now) (base_round c.now) (s.rounds + 1)) }
-    ensures sound { IfOk result (λ s. PermitInputs c.now s.rounds (waves_of (waves_at store.new s.numbers))) }
+    ensures work { IfOk result (λ s.
+        s.evals ≡ evaluations_to classes.now.nets c.now (is_driven c.now) (base_round c.now)
+        (s.rounds + 1)) }
+    ensures sound { IfOk result (λ s.
+        PermitInputs c.now s.rounds (waves_of (waves_at store.new s.numbers))) }
     ensures unsettled { IfErr result (EndsFor c.now.order (base_round c.now) limit) }
     ensures loopless { HasNoLoop c.now → outputs c.now.instances ≤ limit →
         MatchResult result (λ s. s.rounds ≤ outputs c.now.instances) (λ e. e ≡ EngineEnd.NoMemory) }

@@ -103,13 +103,13 @@ fn driven_in(alloc: Global, c: &Circuit, cone: &NetSet) -> Result<NetSet, NoMemo
     Ok(active)
 }
 
-/// The settled waves of the case with this number from 0: its nets have their values, the other nets of
-/// its cone are unknown at the start, and all others keep the base's waves; rounds over the driven nets of
-/// the cone, until a round is as the one before, by one net of each class where there are classes. The
-/// waves permit every run of the case whose inputs keep their assertions, `reach` ticks later for each
-/// round of the base and of the case. `Unsettled` comes exactly where no round up to `limit` is as the
-/// next one: never where no net is reached from itself through listening pins and the limit is not below
-/// the number of instances with an output.
+/// The settled waves of the case with this number from 0: its nets have their values, the other
+/// nets of its cone are unknown at the start, and all others keep the base's waves; rounds over the
+/// driven nets of the cone, until a round is as the one before, by one net of each class where
+/// there are classes. The waves permit every run of the case whose inputs keep their assertions,
+/// `reach` ticks later for each round of the base and of the case. `Unsettled` comes exactly where
+/// no round up to `limit` is as the next one: never where no net is reached from itself through
+/// listening pins and the limit is not below the number of instances with an output.
 pub fn case_waves<W: CyclicWave<Item = Value>>(
     alloc: Global,
     c: &Circuit,
@@ -124,7 +124,8 @@ pub fn case_waves<W: CyclicWave<Item = Value>>(
     requires classes { AreClasses c.now cases.now classes.now }
     requires number { number < length cases.now }
     requires exist { NetsExist c.now (case_at cases.now number) }
-    requires base { IsBase c.now base.now.rounds base.now.rounds (waves_of (waves_at store.old base.now.numbers)) }
+    requires base { IsBase c.now base.now.rounds base.now.rounds
+        (waves_of (waves_at store.old base.now.numbers)) }
     requires fit { FitWaves c.now (waves_at store.old base.now.numbers) }
     ensures grows { Grows store.old store.new }
     ensures known { IfOk result (λ s. AreKnown store.new s.numbers) }
@@ -136,8 +137,9 @@ pub fn case_waves<W: CyclicWave<Item = Value>>(
     ensures fit { IfOk result (λ s. FitWaves c.now (waves_at store.new s.numbers)) }
     ensures work { let case = case_at cases.now number in
         let before = waves_of (waves_at store.old base.now.numbers) in
-        IfOk result (λ s. (cone : ℕ → Bool) → IsCone c.now case cone → s.evals ≡ evaluations_to
-        classes.now.nets c.now (case_active c.now cone) (case_round c.now case cone before) (s.rounds + 1)) }
+        IfOk result (λ s. (cone : ℕ → Bool) → IsCone c.now case cone →
+        s.evals ≡ evaluations_to classes.now.nets c.now (case_active c.now cone)
+        (case_round c.now case cone before) (s.rounds + 1)) }
     ensures sound { IfOk result (λ s. PermitCase c.now (case_at cases.now number)
         (base.now.rounds + s.rounds) (waves_of (waves_at store.new s.numbers))) }
     ensures unsettled { let case = case_at cases.now number in

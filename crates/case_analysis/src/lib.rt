@@ -5,8 +5,8 @@
 //! `specs/Base` says which runs the waves permit, and `specs/Tick` from which tick on checks may
 //! rely on them.
 //!
-//! [`check_cases`] gives the cases that a drawing lists, and [`case_waves`] the waves of one, from those
-//! of the base (`specs/Listed`, `Case`).
+//! [`check_cases`] gives the cases that a drawing lists, and [`case_waves`] the waves of one, from
+//! those of the base (`specs/Listed`, `Case`).
 #![tactic(auto)]
 
 mod base_rounds;

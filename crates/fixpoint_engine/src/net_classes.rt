@@ -9,8 +9,8 @@ use flat_circuit::{CaseList, Circuit, classes, stable};
 use scald_base::NoMemory;
 use std::alloc::Global;
 
-/// The classes of a circuit's nets, of each of which one net is evaluated; or none, where something tells
-/// the nets of a class apart, and each net is evaluated by itself.
+/// The classes of a circuit's nets, of each of which one net is evaluated; or none, where something
+/// tells the nets of a class apart, and each net is evaluated by itself.
 #[derive(Drop)]
 pub struct NetClasses {
     /// The nets of each class.

@@ -128,16 +128,17 @@ fn shortened<W: CyclicWave<Item = Value>>(
     store.compact(alloc, kept, numbers.as_slice())
 }
 
-/// Rounds over the active nets, from the waves at the start, until a round is as the one before: the
-/// waves of the first round that the next one equals. The start waves permit a run from some tick on;
-/// the settled waves permit it `reach` ticks a round later. `Unsettled` comes exactly where no round up
-/// to `limit` is as the next one. In the first round each active net is evaluated, and later those alone
-/// whose driver listens to a net that changed in the round before; `evals` counts them. Waves are given
-/// and answered by their numbers in the store, which has what is made of them remembered.
+/// Rounds over the active nets, from the waves at the start, until a round is as the one before:
+/// the waves of the first round that the next one equals. The start waves permit a run from some
+/// tick on; the settled waves permit it `reach` ticks a round later. `Unsettled` comes exactly
+/// where no round up to `limit` is as the next one. In the first round each active net is
+/// evaluated, and later those alone whose driver listens to a net that changed in the round before;
+/// `evals` counts them. Waves are given and answered by their numbers in the store, which has what
+/// is made of them remembered.
 ///
-/// Where there are classes, whose nets have one wave in every round and are due in the same rounds, one
-/// net of each class is evaluated, and the number of its wave is given to all; `evals` counts the classes
-/// that have nets which are due in a round.
+/// Where there are classes, whose nets have one wave in every round and are due in the same rounds,
+/// one net of each class is evaluated, and the number of its wave is given to all; `evals` counts
+/// the classes that have nets which are due in a round.
 pub fn settle<W: CyclicWave<Item = Value>>(
     alloc: Global,
     c: &Circuit,

@@ -15,6 +15,7 @@ use Rattle.step_values.specs.Steps.{has}
 use Rattle.element_kinds.specs.declared.kind.Kind.TheVariants.{Reg, SetupHold}
 use Rattle.element_kinds.specs.Kinds.{checks_pulses}
 use Rattle.flat_circuit.specs.declared.instance.Instance.{Instance}
+use Rattle.flat_circuit.specs.declared.limits.Limits.TheVariants.{Edges}
 use Rattle.flat_circuit.specs.declared.net.Net.{Net}
 use Rattle.flat_circuit.specs.Name.{Name}
 use Rattle.flat_circuit.specs.Circuit.{Circuit}
@@ -56,7 +57,7 @@ abbrev register : Instance
 register = element Reg (bounds 2 2) (on 0 ∷ on 1 ∷ []) 2
 
 abbrev checked : ℕ → Instance
-checked hold = record (checker SetupHold (on 0 ∷ on 2 ∷ [])) { limits = (1, hold) }
+checked hold = record (checker SetupHold (on 0 ∷ on 2 ∷ [])) { limits = Edges 1 hold }
 
 abbrev source : AssertSpec → Circuit
 source spec = record {
