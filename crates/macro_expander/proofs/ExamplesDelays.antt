@@ -17,7 +17,7 @@ use Rattle.macro_expander.specs.Terms.{term_bits, joined, all_joined, wires_of}
 use Rattle.macro_expander.specs.Primitives.{takes_delays, plan_of, all_added, primitive_use}
 use Rattle.macro_expander.specs.Macros.{given_to}
 use Rattle.macro_expander.specs.Flat.{flat, use_act, body_at}
-use Rattle.flat_circuit.specs.declared.limits.Limits.TheVariants.{None as Unlimited}
+use Rattle.flat_circuit.specs.declared.limits.Limits.TheVariants.{None as Unlimited, Pulses}
 
 -- ---- uses
 
@@ -81,6 +81,14 @@ plan kind u = plan_of 400 kind [] u
 
 abbrev one_delay : ℕ → ℕ → Judged Plan
 one_delay min max = Ok (record { delay = record { min = min; max = max }; split = None; limits = Unlimited })
+
+-- a checker's, of pulses of any width
+abbrev no_widths : Judged Plan
+no_widths = Ok (record {
+  delay = record { min = 0; max = 0 };
+  split = None;
+  limits = Pulses 0 0;
+})
 
 abbrev two_delays : ℕ × ℕ → ℕ × ℕ → ℕ × ℕ → Judged Plan
 two_delays either rise fall = Ok (record {
@@ -215,7 +223,7 @@ both = refl
 fall_alone : takers None (from 0 0) ≡ replicate 12 false ++ replicate 3 true
 fall_alone = refl
 
-fall_is_not_looked_at : plan MinPulse (without_output (use_of None to_a_fault)) ≡ one_delay 0 0
+fall_is_not_looked_at : plan MinPulse (without_output (use_of None to_a_fault)) ≡ no_widths
 unfolding plan_of
 fall_is_not_looked_at = refl
 
