@@ -55,7 +55,8 @@ in_cone c vs cone is (Err NoMemory) = tt
 in_cone c vs cone is (Err (Unsettled net limit)) = record { cone = cone; is = is }
 
 -- the driven nets of a cone are driven
-pub active_fits : (c : Circuit) (active : List Bool) (cone : ℕ → Bool) → ((i : ℕ) → marked_in active i ≡ case_active c cone i) → FitActive c active
+pub active_fits : (c : Circuit) (active : List Bool) (cone : ℕ → Bool) →
+    ((i : ℕ) → marked_in active i ≡ case_active c cone i) → FitActive c active
 active_fits c active cone are i on = and_second (cone i) (is_driven c i) (sym (are i) ∙ on)
   where
     and_second : (a b : Bool) → (a && b) ≡ true → b ≡ true

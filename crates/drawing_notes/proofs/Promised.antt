@@ -1,5 +1,5 @@
 -- What the answer to a text says of the outcome of the call, and of what was written.
-use Rattle.std.proofs.Common.{◌≡◌, ◌∙◌, true, List, ℕ, length, refl, sym, ap, subst, Option, None}
+use Rattle.std.proofs.Common.{◌≡◌, ◌∙◌, true, List, ℕ, length, refl, sym, ap, Option, None}
 use Rattle.scald_base.specs.declared.outcome.Outcome.{Outcome}
 use Rattle.scald_base.specs.Outcome.{end_of}
 use Rattle.program_call.specs.Program.{IsLawful}

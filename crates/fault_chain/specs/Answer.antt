@@ -9,8 +9,10 @@ use Rattle.program_call.specs.Answer.{verdict_of}
 use Rattle.program_call.specs.Wordless.{reporting_program}
 use Rattle.fault_chain.specs.Report.{chain_report}
 
--- The outcome counts the faults, and the bytes are the chains of all of them, by the version of the drawing.
-pub record AreChains (version : ℕ) (c : Circuit) (base : ℕ) (cases : List Case) (o : Outcome) (bytes : List ℕ) : Type 0 where
+-- The outcome counts the faults, and the bytes are the chains of all of them, by the version of the
+-- drawing.
+pub record AreChains (version : ℕ) (c : Circuit) (base : ℕ) (cases : List Case) (o : Outcome)
+    (bytes : List ℕ) : Type 0 where
   pub outcome : o ≡ verdict_of (fault_count c cases)
   pub text : bytes ≡ chain_report version c cases
 

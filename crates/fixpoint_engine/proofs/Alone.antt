@@ -14,7 +14,8 @@ use Rattle.fixpoint_engine.specs.Settled.{marked_in, FitActive}
 use Rattle.fixpoint_engine.specs.Work.{is_due, work_to}
 use Rattle.fixpoint_engine.specs.Worklist.{Change}
 use Rattle.fixpoint_engine.specs.Classes.{OneStandsForAll, is_first, class_work_to}
-use Rattle.fixpoint_engine.specs.Members.{last_below, members_below, for_classes, numbers_in, leads_in, is_evaluated, for_all, evaluations_to}
+use Rattle.fixpoint_engine.specs.Members.{last_below, members_below, for_classes, numbers_in}
+use Rattle.fixpoint_engine.specs.Members.{leads_in, is_evaluated, for_all, evaluations_to}
 use Rattle.fixpoint_engine.proofs.Drivers.{active_past}
 use Rattle.fixpoint_engine.proofs.Members.{above, members_above, first_is}
 
@@ -114,7 +115,9 @@ own_work c active rounds (suc r) =
     (λ k below. ap (λ (b : Bool). b && is_due c active rounds (suc r) k) (own_first (length c.nets) k below)) in
     λ k. own_work c active rounds r k + due k
 
-pub evaluations_are : (c : Circuit) (classes : Option (List ℕ)) (active : ℕ → Bool) (rounds : ℕ → Waves) (r : ℕ) →
-    class_work_to c (numbers_in (length c.nets) classes) active rounds r ≡ evaluations_to classes c active rounds r
+pub evaluations_are : (c : Circuit) (classes : Option (List ℕ)) (active : ℕ → Bool)
+    (rounds : ℕ → Waves) (r : ℕ) →
+    class_work_to c (numbers_in (length c.nets) classes) active rounds r ≡ evaluations_to classes c
+    active rounds r
 evaluations_are c None active rounds r = own_work c active rounds r
 evaluations_are c (Some ks) active rounds r = refl

@@ -1,5 +1,7 @@
 -- What the worklist has come to after some rounds, and how a round more, rest and the limit follow.
-use Rattle.std.proofs.Common.{◌≡◌, ℕ, Option, zero, suc, ◌+◌, ◌*◌, ◌<◌, ◌≤◌, ◌==◌, inl, inr, Bool, true, false, not, ◌&&◌, ◌||◌, cond, All, List, [], ◌∷◌, length, map, refl, sym, ap, subst, ◌∙◌, arith, Some, None}
+use Rattle.std.proofs.Common.{◌≡◌, ℕ, Option, zero, suc, ◌+◌, ◌*◌, ◌<◌, ◌≤◌, ◌==◌, inl, inr, Bool}
+use Rattle.std.proofs.Common.{true, false, not, ◌&&◌, ◌||◌, cond, All, List, [], ◌∷◌, length, map}
+use Rattle.std.proofs.Common.{refl, sym, ap, subst, ◌∙◌, arith, Some, None}
 use Rattle.std.specs.Prelude.{IfSome}
 use Rattle.std.specs.Cmp.{both_ways}
 use Rattle.std.specs.List.{list_any, range_with_len}
@@ -317,9 +319,12 @@ classes_are c cases active ks start known fit each stable one together = record 
 }
 
 -- with classes or without
-pub each_stands : (c : Circuit) (cases : List (List CaseValue)) (active : List Bool) (classes : Option (List ℕ)) (start : Waves) →
-    IsCircuit c → FitActive c active → IfSome classes (λ ks. (length ks ≡ length c.nets) × IsStable c cases ks) →
-    ((ks : List ℕ) → IsStable c cases ks → HaveOneWave c ks start × AreTogether c ks (marked_in active)) →
+pub each_stands : (c : Circuit) (cases : List (List CaseValue)) (active : List Bool)
+    (classes : Option (List ℕ)) (start : Waves) →
+    IsCircuit c → FitActive c active →
+    IfSome classes (λ ks. (length ks ≡ length c.nets) × IsStable c cases ks) →
+    ((ks : List ℕ) → IsStable c cases ks →
+    HaveOneWave c ks start × AreTogether c ks (marked_in active)) →
     OneStandsForAll c (marked_in active) (numbers_in (length c.nets) classes) start
 each_stands c cases active None start known fit stable alike = own_classes c active start fit
 each_stands c cases active (Some ks) start known fit stable alike =

@@ -16,21 +16,28 @@ abbrev pub Margins : Drawing → Reporting
 Margins d = AreMargins d.version
 
 pub margins_are_one : IsOne Margins
-margins_are_one d c base cases o o' bytes bytes' is is' = (is.outcome ∙ sym is'.outcome, is.text ∙ sym is'.text)
+margins_are_one d c base cases o o' bytes bytes' is is' =
+    (is.outcome ∙ sym is'.outcome, is.text ∙ sym is'.text)
 
 pub margins_speak : HoldsOfReports (λ o. end_of o ≡ None) Margins
 margins_speak d c base cases o bytes is = ap end_of is.outcome
 
-pub is_given : (text : List ℕ) (o : Outcome) (bytes : List ℕ) → Evaluated Margins None text o bytes → may_answer o ≡ true
+pub is_given : (text : List ℕ) (o : Outcome) (bytes : List ℕ) →
+    Evaluated Margins None text o bytes → may_answer o ≡ true
 is_given text o bytes =
-    evaluated_has (λ o. may_answer o ≡ true) (λ place last. refl) (λ r. refl) Margins None text o bytes
+    evaluated_has (λ o. may_answer o ≡ true) (λ place last. refl) (λ r. refl) Margins None text o
+    bytes
     (λ d c base cases o bytes is. ap may_answer is.outcome)
 
 pub is_written : (text : List ℕ) (o : Outcome) (taken taken' : Option (List ℕ)) →
-    ((reply : Outcome) (bytes : List ℕ) → Evaluated Margins None text reply bytes → Writes reply bytes o taken taken') → WritesMargins text o taken taken'
+    ((reply : Outcome) (bytes : List ℕ) → Evaluated Margins None text reply bytes →
+    Writes reply bytes o taken taken') → WritesMargins text o taken taken'
 is_written text o taken taken' writes c values base cases drawn rests at_rest =
-    writes _ _ (answer.judged c values _ _ drawn (rested base cases _ _ rests at_rest (record { outcome = refl; text = refl })))
+    writes _ _ (answer.judged c values _ _ drawn
+    (rested base cases _ _ rests at_rest (record { outcome = refl; text = refl })))
 
-pub is_settled : (text : List ℕ) (o : Outcome) (bytes : List ℕ) → Evaluated Margins None text o bytes → SettlesLoopless text o
+pub is_settled : (text : List ℕ) (o : Outcome) (bytes : List ℕ) →
+    Evaluated Margins None text o bytes → SettlesLoopless text o
 is_settled text o bytes =
-    evaluated_settles Margins text o bytes (λ d c base cases o bytes is place last still. let none = sym is.outcome ∙ still in absurd (cc))
+    evaluated_settles Margins text o bytes (λ d c base cases o bytes is place last still. let none =
+    sym is.outcome ∙ still in absurd (cc))

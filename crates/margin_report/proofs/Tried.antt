@@ -1,5 +1,5 @@
 -- A value is tried as if it were written.
-use Rattle.std.proofs.Common.{◌≡◌, ℕ, Bool, true, false, not, cond, ◌&&◌, eqb, eq-eqb, List, [], ◌∷◌, ◌++◌, refl, ap, ◌∙◌, Option, Some, None, slice_get}
+use Rattle.std.proofs.Common.{◌≡◌, ℕ, Bool, true, false, not, cond, ◌&&◌, eq-eqb, List, [], ◌∷◌, ◌++◌, refl, ap, ◌∙◌, Option, Some, None, slice_get}
 use Rattle.std.specs.Prelude.{◌==◌, filter}
 use Rattle.std.specs.Option.{option_map}
 use Rattle.std.proofs.Math.Bool.{and-false}

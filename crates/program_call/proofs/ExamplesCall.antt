@@ -1,15 +1,18 @@
--- Calls of the program that gives back what it reads, three bytes at most: one that is a call, and for each promise one
+-- Calls of the program that gives back what it reads, three bytes at most: one that is a call, and
+-- for each promise one
 -- that breaks it.
-use Rattle.std.proofs.Common.{◌≡◌, ◌∙◌, ℕ, ◌≤◌, inl, inr, Bool, true, false, List, [], ◌∷◌, length, refl, sym, ap, subst, length-append, arith, Option, Some, None, Ok, Err}
+use Rattle.std.proofs.Common.{◌≡◌, ◌∙◌, ℕ, ◌≤◌, inl, inr, Bool, true, List, [], ◌∷◌, length}
+use Rattle.std.proofs.Common.{refl, sym, ap, subst, length-append, arith, Option, Some, None}
 use Rattle.std.specs.Prelude.{◌⊎◌, slice_index_or}
 use Rattle.scald_base.specs.Device.{Rose}
 use Rattle.scald_base.specs.declared.outcome.Outcome.{Outcome}
-use Rattle.scald_base.specs.declared.outcome.Outcome.TheVariants.{Done, BadWords, TooLong, ReadFault, WriteFault, NoMemory}
+use Rattle.scald_base.specs.declared.outcome.Outcome.TheVariants.{Done, BadWords, TooLong}
+use Rattle.scald_base.specs.declared.outcome.Outcome.TheVariants.{ReadFault, WriteFault, NoMemory}
 use Rattle.program_call.specs.Program.{IsAnswered, by_source}
 use Rattle.program_call.specs.Call.{Devices, IsCall, devices, nothing_more}
-use Rattle.program_call.proofs.Answering.{one_answer}
 use Rattle.program_call.proofs.Calling.{replied_whole}
-use Rattle.program_call.proofs.ExamplesAnswer.{Echoes, echo, echoed, lawful, other, other_byte, two, word}
+use Rattle.program_call.proofs.ExamplesAnswer.{Echoes, echo, echoed, lawful, other, other_byte, two}
+use Rattle.program_call.proofs.ExamplesAnswer.{word}
 
 -- ---- devices that tell their bytes
 
@@ -21,7 +24,8 @@ abbrev told : Devices State State
 told = devices (λ s. s.0) (λ s. s.1) (λ k. k.0) (λ k. k.1)
 
 abbrev Is : List (List ℕ) → Outcome → State → State → State → State → Type 0
-Is words o source source' sink sink' = IsCall echo nothing_more words o told source source' sink sink'
+Is words o source source' sink sink' =
+    IsCall echo nothing_more words o told source source' sink sink'
 
 abbrev at : List ℕ → State
 at bytes = (Some bytes, 0)
@@ -47,7 +51,8 @@ never_rose (inr full) = absurd (omega (arith, full))
 it_is : Is word Done (at two) (at []) (at []) (at two)
 it_is =
     replied_whole echo lawful nothing_more word told (at two) (at []) (at []) (at two) true two refl
-    (λ reads. record { bytes = refl; to_end = refl; within = omega arith }) (omega arith) (λ none. absurd (cc))
+    (λ reads. record { bytes = refl; to_end = refl; within = omega arith }) (omega arith)
+    (λ none. absurd (cc))
     (record { front = two; bytes = refl; within = omega arith }) refl
     two Done two two refl (refl, refl) refl tt refl refl
 
@@ -66,7 +71,8 @@ unread call = let same = call.unread refl in absurd (let none = ap (λ (s : Stat
 
 -- a silent outcome writes nothing
 unwritten : ¬ Is word TooLong (at four) (at []) (at []) (at two)
-unwritten call = let same = call.unwritten refl in absurd (let none = ap (λ (s : State). s.0) same in cc)
+unwritten call = let same =
+    call.unwritten refl in absurd (let none = ap (λ (s : State). s.0) same in cc)
 
 -- where nothing fails, the outcome is that of the answer
 whole : ¬ Is word ReadFault (at two) (at []) (at []) (at [])
@@ -96,10 +102,12 @@ to_end call = let none = call.to_end refl refl in absurd (cc none)
 
 -- a fault is reported
 source_steady : ¬ Is word Done (at two) (Some [], 1) (at []) (at two)
-source_steady call = let same : 1 ≡ 0 = call.source_steady (λ e. absurd (cc e)) in absurd (omega (arith, same))
+source_steady call = let same : 1 ≡ 0 =
+    call.source_steady (λ e. absurd (cc e)) in absurd (omega (arith, same))
 
 sink_steady : ¬ Is word Done (at two) (at []) (at []) (Some two, 1)
-sink_steady call = let same : 1 ≡ 0 = call.sink_steady (λ e. absurd (cc e)) in absurd (omega (arith, same))
+sink_steady call = let same : 1 ≡ 0 =
+    call.sink_steady (λ e. absurd (cc e)) in absurd (omega (arith, same))
 
 -- an outcome that speaks of a text is that of a text that may be read
 replied : ¬ Is word Done (None, 0) (None, 0) (at []) (at four)
@@ -107,7 +115,8 @@ replied call =
     let written = call.replied refl in
     let reply = written.reply in
     let one : true ≡ reply.command = cc reply.form in
-    let is = subst (λ (command : Bool). Echoes command reply.text Done written.bytes) (sym one) reply.is in
+    let is = subst (λ (command : Bool). Echoes command reply.text Done written.bytes) (sym one)
+    reply.is in
     let short = subst (λ (command : Bool). length reply.text ≤ 3) (sym one) reply.short in
     absurd (omega (arith, ap length written.written, ap length is.1, short))
 

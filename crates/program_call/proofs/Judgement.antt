@@ -1,5 +1,6 @@
--- A circuit has one conclusion, and a text is evaluated in one way, where what is reported of a circuit is one.
-use Rattle.std.proofs.Common.{◌≡◌, ℕ, suc, refl, sym, ap, subst, ◌∙◌, List, Option}
+-- A circuit has one conclusion, and a text is evaluated in one way, where what is reported of a
+-- circuit is one.
+use Rattle.std.proofs.Common.{◌≡◌, ℕ, suc, refl, sym, ap, subst, List, Option}
 use Rattle.flat_circuit.specs.declared.case.CaseValue.{CaseValue}
 use Rattle.flat_circuit.specs.Circuit.{Circuit}
 use Rattle.fixpoint_engine.specs.Rounds.{RestsAt}
@@ -21,17 +22,22 @@ use Rattle.program_call.specs.Answer.{Reporting, limit_for, Concluded, Evaluated
 module _ (c : Circuit) (values : List (List CaseValue)) (limit : ℕ) where
   settled_or_not : (base place : ℕ) (cases : List Case) → RestsAt (base_round c) limit base →
       AreAtRest c limit base (listed_cases values) cases → StopsEarly c values limit place → ⊥
-  settled_or_not base place cases rests at_rest (by_base is) = is.never base rests.within rests.still
+  settled_or_not base place cases rests at_rest (by_base is) =
+      is.never base rests.within rests.still
   settled_or_not base place cases rests at_rest (by_case other rests' stops) =
       let same : other ≡ base = one_rest (base_round c) limit limit other base rests' rests in
       rest_or_stop c limit base (listed_cases values) cases place at_rest
       (subst (λ (b : ℕ). StopsAt c limit b (listed_cases values) place) same stops)
 
-  one_stop_early : (place other : ℕ) → StopsEarly c values limit place → StopsEarly c values limit other → place ≡ other
+  one_stop_early : (place other : ℕ) → StopsEarly c values limit place →
+      StopsEarly c values limit other → place ≡ other
   one_stop_early place other (by_base is) (by_base is') =
-      one_place c.order (base_round c limit) (base_round c (suc limit)) place other is.first is'.first
-  one_stop_early place other (by_base is) (by_case base rests stops) = absurd (is.never base rests.within rests.still)
-  one_stop_early place other (by_case base rests stops) (by_base is) = absurd (is.never base rests.within rests.still)
+      one_place c.order (base_round c limit) (base_round c (suc limit)) place other is.first
+      is'.first
+  one_stop_early place other (by_base is) (by_case base rests stops) =
+      absurd (is.never base rests.within rests.still)
+  one_stop_early place other (by_case base rests stops) (by_base is) =
+      absurd (is.never base rests.within rests.still)
   one_stop_early place other (by_case base rests stops) (by_case base' rests' stops') =
       let same : base' ≡ base = one_rest (base_round c) limit limit base' base rests' rests in
       one_stop c limit base (listed_cases values) place other stops
@@ -42,20 +48,27 @@ module _ (c : Circuit) (values : List (List CaseValue)) (limit : ℕ) where
 -- of a settled circuit one outcome and its bytes are reported
 abbrev pub IsOne : (Drawing → Reporting) → Type 0
 IsOne Reports =
-    (d : Drawing) (c : Circuit) (base : ℕ) (cases : List Case) (o o' : Outcome) (bytes bytes' : List ℕ) →
+    (d : Drawing) (c : Circuit) (base : ℕ) (cases : List Case) (o o' : Outcome)
+    (bytes bytes' : List ℕ) →
     Reports d c base cases o bytes → Reports d c base cases o' bytes' → (o ≡ o') × (bytes ≡ bytes')
 
 module _ (Reports : Drawing → Reporting) (one : IsOne Reports) where
-  one_conclusion : (d : Drawing) (c : Circuit) (values : List (List CaseValue)) (limit : ℕ) (o o' : Outcome) (bytes bytes' : List ℕ) →
-      Concluded (Reports d) c values limit o bytes → Concluded (Reports d) c values limit o' bytes' → (o ≡ o') × (bytes ≡ bytes')
-  one_conclusion d c values limit _ _ _ _ (rested base cases o bytes rests at_rest is) (rested base' cases' o' bytes' rests' at_rest' is') =
-      let same = rest_in_one_way c limit limit base base' (listed_cases values) cases cases' rests at_rest rests' at_rest' in
+  one_conclusion : (d : Drawing) (c : Circuit) (values : List (List CaseValue)) (limit : ℕ)
+      (o o' : Outcome) (bytes bytes' : List ℕ) →
+      Concluded (Reports d) c values limit o bytes →
+      Concluded (Reports d) c values limit o' bytes' → (o ≡ o') × (bytes ≡ bytes')
+  one_conclusion d c values limit _ _ _ _ (rested base cases o bytes rests at_rest is)
+      (rested base' cases' o' bytes' rests' at_rest' is') =
+      let same = rest_in_one_way c limit limit base base' (listed_cases values) cases cases' rests
+      at_rest rests' at_rest' in
       one d c base cases o o' bytes bytes' is
       (subst (λ (b : ℕ). Reports d c b cases o' bytes') (sym same.0)
       (subst (λ (cs : List Case). Reports d c base' cs o' bytes') (sym same.1) is'))
-  one_conclusion d c values limit _ _ _ _ (rested base cases o bytes rests at_rest is) (unsettled place stops) =
+  one_conclusion d c values limit _ _ _ _ (rested base cases o bytes rests at_rest is)
+      (unsettled place stops) =
       absurd (settled_or_not c values limit base place cases rests at_rest stops)
-  one_conclusion d c values limit _ _ _ _ (unsettled place stops) (rested base cases o bytes rests at_rest is) =
+  one_conclusion d c values limit _ _ _ _ (unsettled place stops)
+      (rested base cases o bytes rests at_rest is) =
       absurd (settled_or_not c values limit base place cases rests at_rest stops)
   one_conclusion d c values limit _ _ _ _ (unsettled place stops) (unsettled other stops') =
       let same : place ≡ other = one_stop_early c values limit place other stops stops' in
@@ -64,16 +77,24 @@ module _ (Reports : Drawing → Reporting) (one : IsOne Reports) where
   -- ---- answers
 
   pub one_evaluated : (rounds : Option ℕ) (text : List ℕ) (o o' : Outcome) (bytes bytes' : List ℕ) →
-      Evaluated Reports rounds text o bytes → Evaluated Reports rounds text o' bytes' → (o ≡ o') × (bytes ≡ bytes')
+      Evaluated Reports rounds text o bytes → Evaluated Reports rounds text o' bytes' →
+      (o ≡ o') × (bytes ≡ bytes')
   one_evaluated rounds text _ _ _ _ (answer.refused r is) (answer.refused q is') =
       let same : r ≡ q = one_refusal text r q is is' in (rw same refl, rw same refl)
-  one_evaluated rounds text _ _ _ _ (answer.refused r is) (answer.judged c values o' bytes' drawn j) = absurd (not_refused text r c values is drawn)
-  one_evaluated rounds text _ _ _ _ (answer.judged c values o bytes drawn j) (answer.refused q is') = absurd (not_refused text q c values is' drawn)
-  one_evaluated rounds text _ _ _ _ (answer.judged c values o bytes drawn j) (answer.judged c' values' o' bytes' drawn' j') =
+  one_evaluated rounds text _ _ _ _ (answer.refused r is)
+      (answer.judged c values o' bytes' drawn j) = absurd (not_refused text r c values is drawn)
+  one_evaluated rounds text _ _ _ _ (answer.judged c values o bytes drawn j)
+      (answer.refused q is') = absurd (not_refused text q c values is' drawn)
+  one_evaluated rounds text _ _ _ _ (answer.judged c values o bytes drawn j)
+      (answer.judged c' values' o' bytes' drawn' j') =
       let same = text_draws_one_circuit text c' c values' values drawn' drawn in
       let d = drawn.drawing in
-      let drawings : drawn'.drawing ≡ d = one_drawing text drawn'.drawing d drawn'.draws.drawn drawn.draws.drawn in
+      let drawings : drawn'.drawing ≡ d =
+      one_drawing text drawn'.drawing d drawn'.draws.drawn drawn.draws.drawn in
       one_conclusion d c values (limit_for c rounds) o o' bytes bytes' j
-      (subst (λ (vs : List (List CaseValue)). Concluded (Reports d) c vs (limit_for c rounds) o' bytes') same.1
-      (subst (λ (z : Circuit). Concluded (Reports d) z values' (limit_for z rounds) o' bytes') same.0
-      (subst (λ (e : Drawing). Concluded (Reports e) c' values' (limit_for c' rounds) o' bytes') drawings j')))
+      (subst (λ (vs : List (List CaseValue)). Concluded (Reports d) c vs (limit_for c rounds) o'
+      bytes') same.1
+      (subst (λ (z : Circuit). Concluded (Reports d) z values' (limit_for z rounds) o' bytes')
+      same.0
+      (subst (λ (e : Drawing). Concluded (Reports e) c' values' (limit_for c' rounds) o' bytes')
+      drawings j')))

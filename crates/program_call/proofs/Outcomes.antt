@@ -17,7 +17,8 @@ use Rattle.timing_analysis.specs.Case.{Case}
 use Rattle.timing_analysis.specs.Ended.{StopsEarly, by_base, by_case}
 use Rattle.program_call.specs.Answer as answer
 use Rattle.fixpoint_engine.specs.Start.{default_limit}
-use Rattle.program_call.specs.Answer.{Reporting, Concluded, Evaluated, limit_for, rested, unsettled, verdict_of}
+use Rattle.program_call.specs.Answer.{Reporting, Concluded, Evaluated, limit_for, rested, unsettled}
+use Rattle.program_call.specs.Answer.{verdict_of}
 use Rattle.program_call.specs.Promise.{SettlesLoopless, may_count}
 
 -- ---- by what is reported
@@ -25,20 +26,29 @@ use Rattle.program_call.specs.Promise.{SettlesLoopless, may_count}
 -- it holds of every outcome that is reported of a circuit
 abbrev pub HoldsOfReports : (Outcome → Type 0) → (Drawing → Reporting) → Type 0
 HoldsOfReports P Reports =
-    (d : Drawing) (c : Circuit) (base : ℕ) (cases : List Case) (o : Outcome) (bytes : List ℕ) → Reports d c base cases o bytes → P o
+    (d : Drawing) (c : Circuit) (base : ℕ) (cases : List Case) (o : Outcome) (bytes : List ℕ) →
+    Reports d c base cases o bytes → P o
 
-concluded_has : (P : Outcome → Type 0) (Reports : Reporting) (c : Circuit) (values : List (List CaseValue)) (limit : ℕ) (o : Outcome) (bytes : List ℕ) →
-    ((base : ℕ) (cases : List Case) (o : Outcome) (bytes : List ℕ) → Reports c base cases o bytes → P o) →
-    ((place : ℕ) → StopsEarly c values limit place → P (Unsettled place limit)) → Concluded Reports c values limit o bytes → P o
-concluded_has P Reports c values limit _ _ holds of_net (rested base cases o bytes rests at_rest is) = holds base cases o bytes is
+concluded_has : (P : Outcome → Type 0) (Reports : Reporting) (c : Circuit)
+    (values : List (List CaseValue)) (limit : ℕ) (o : Outcome) (bytes : List ℕ) →
+    ((base : ℕ) (cases : List Case) (o : Outcome) (bytes : List ℕ) → Reports c base cases o bytes →
+    P o) →
+    ((place : ℕ) → StopsEarly c values limit place → P (Unsettled place limit)) →
+    Concluded Reports c values limit o bytes → P o
+concluded_has P Reports c values limit _ _ holds of_net
+    (rested base cases o bytes rests at_rest is) = holds base cases o bytes is
 concluded_has P Reports c values limit _ _ holds of_net (unsettled place stops) = of_net place stops
 
-pub evaluated_has : (P : Outcome → Type 0) → ((place last : ℕ) → P (Unsettled place last)) → ((r : Refusal) → P (Refused r)) →
-    (Reports : Drawing → Reporting) (rounds : Option ℕ) (text : List ℕ) (o : Outcome) (bytes : List ℕ) →
+pub evaluated_has : (P : Outcome → Type 0) → ((place last : ℕ) → P (Unsettled place last)) →
+    ((r : Refusal) → P (Refused r)) →
+    (Reports : Drawing → Reporting) (rounds : Option ℕ) (text : List ℕ) (o : Outcome)
+    (bytes : List ℕ) →
     HoldsOfReports P Reports → Evaluated Reports rounds text o bytes → P o
 evaluated_has P of_net of_refusal Reports rounds text _ _ holds (answer.refused r is) = of_refusal r
-evaluated_has P of_net of_refusal Reports rounds text _ _ holds (answer.judged c values o bytes draws j) =
-    concluded_has P (Reports draws.drawing) c values (limit_for c rounds) o bytes (holds draws.drawing c) (λ place stops. of_net place (limit_for c rounds)) j
+evaluated_has P of_net of_refusal Reports rounds text _ _ holds
+    (answer.judged c values o bytes draws j) =
+    concluded_has P (Reports draws.drawing) c values (limit_for c rounds) o bytes
+    (holds draws.drawing c) (λ place stops. of_net place (limit_for c rounds)) j
 
 -- ---- without loops
 
@@ -58,12 +68,16 @@ never_stops c values limit place known none within (by_case base rests stops) =
     ever_still c (case_active c never.cone) _ limit place known none within never.is
 
 -- A text whose circuit has no loop settles within the circuit's own limit.
-pub evaluated_settles : (Reports : Drawing → Reporting) (text : List ℕ) (o : Outcome) (bytes : List ℕ) → HoldsOfReports NamesNoNet Reports →
+pub evaluated_settles : (Reports : Drawing → Reporting) (text : List ℕ) (o : Outcome)
+    (bytes : List ℕ) → HoldsOfReports NamesNoNet Reports →
     Evaluated Reports None text o bytes → SettlesLoopless text o
-evaluated_settles Reports text _ _ holds (answer.refused r is) = λ free place last still. absurd (cc)
+evaluated_settles Reports text _ _ holds (answer.refused r is) =
+    λ free place last still. absurd (cc)
 evaluated_settles Reports text _ _ holds (answer.judged c values o bytes draws j) = λ free.
-    concluded_has NamesNoNet (Reports draws.drawing) c values (default_limit c) o bytes (holds draws.drawing c)
-    (λ net stops. absurd (never_stops c values (default_limit c) net draws.draws.is_circuit (free c values draws) (omega arith) stops)) j
+    concluded_has NamesNoNet (Reports draws.drawing) c values (default_limit c) o bytes
+    (holds draws.drawing c)
+    (λ net stops. absurd (never_stops c values (default_limit c) net draws.draws.is_circuit
+    (free c values draws) (omega arith) stops)) j
 
 -- ---- what is counted
 

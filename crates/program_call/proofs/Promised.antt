@@ -35,21 +35,26 @@ module _ (name : List ℕ) (Replied : Replying) where
 
   writes : (words : List (List ℕ)) (text : List ℕ) (o : Outcome) (taken taken' : Option (List ℕ)) → asks (wordless name Replied) words ≡ true → length text ≤ most_bytes →
       (o ≡ NoMemory) ⊎ IsAnswered (wordless name Replied) words text o taken taken' →
-      (reply : Outcome) (bytes : List ℕ) → Replied text reply bytes → Writes reply bytes o taken taken'
+      (reply : Outcome) (bytes : List ℕ) → Replied text reply bytes →
+      Writes reply bytes o taken taken'
   writes words text o taken taken' asked short (inl none) reply bytes is = inl none
   writes words text o taken taken' asked short (inr answered) reply bytes is =
-      let same = answered.only reply bytes (replied Reply reply bytes (none_asked words asked) (λ reads. short) is) in
+      let same = answered.only reply bytes
+      (replied Reply reply bytes (none_asked words asked) (λ reads. short) is) in
       inr (sym same.0, subst (Appends taken taken') (sym same.1) answered.written)
 
   -- where the source tells its bytes, and no device fails
   pub finished : (Finished : List ℕ → Type 0) (words : List (List ℕ)) (left taken taken' : Option (List ℕ)) (o : Outcome) (Read Written : Type 0) →
-      ((text : List ℕ) → ((reply : Outcome) (bytes : List ℕ) → Replied text reply bytes → Writes reply bytes o taken taken') → Finished text) →
+      ((text : List ℕ) → ((reply : Outcome) (bytes : List ℕ) → Replied text reply bytes →
+      Writes reply bytes o taken taken') → Finished text) →
       ((text : List ℕ) → AreTold (wordless name Replied) words left text → (asks (wordless name Replied) words ≡ true → Read) → Written →
       (o ≡ NoMemory) ⊎ IsAnswered (wordless name Replied) words text o taken taken') →
       IfSome left (λ text. asks (wordless name Replied) words ≡ true → length text ≤ most_bytes → Read → Written → Finished text)
   finished Finished words None taken taken' o Read Written each whole = tt
   finished Finished words (Some text) taken taken' o Read Written each whole =
-      λ asked short read written. each text (writes words text o taken taken' asked short (whole text (by_source refl) (λ asks. read) written))
+      λ asked short read written. each text
+      (writes words text o taken taken' asked short
+      (whole text (by_source refl) (λ asks. read) written))
 
   -- ---- without loops
 

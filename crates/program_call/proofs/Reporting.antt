@@ -1,7 +1,7 @@
 -- Cases that are reported one after the other, and what is reported of them in the end.
 use Rattle.std.specs.Prelude.{◌==◌}
-use Rattle.std.proofs.Common.{◌≡◌, ℕ, ◌+◌, ◌<◌, true, false, refl, List, [], ◌∷◌, ◌++◌, length, take, drop, sym, ap, subst, ◌∙◌, arith}
-use Rattle.std.specs.List.{All}
+use Rattle.std.proofs.Common.{◌≡◌, ℕ, ◌+◌, ◌<◌, true, false, refl, List, [], ◌∷◌, ◌++◌, length}
+use Rattle.std.proofs.Common.{take, drop, sym, ap, subst, ◌∙◌, arith}
 use Rattle.std.proofs.lemmas.Bool.{eqb-true}
 use Rattle.std.proofs.lemmas.List.{take_more}
 use Rattle.std.proofs.lemmas.List.Elements.{All-nil, All-push}
@@ -19,7 +19,8 @@ use Rattle.timing_analysis.specs.Case.{Listed, Case, listed_cases, numbered}
 use Rattle.timing_analysis.specs.Ended.{EndsCase, EndsEarly, by_case}
 use Rattle.timing_analysis.specs.Promise.{IsKept}
 use Rattle.timing_analysis.specs.Rested.{IsCaseAtRest, settled_case}
-use Rattle.timing_analysis.proofs.Cases.{none_at_rest, one_more_at_rest, numbered_here, around_here, first_that_never_rests}
+use Rattle.timing_analysis.proofs.Cases.{none_at_rest, one_more_at_rest, numbered_here, around_here}
+use Rattle.timing_analysis.proofs.Cases.{first_that_never_rests}
 use Rattle.program_call.specs.Reporter.{OfCases}
 
 module _ (c : Circuit) (limit base : ℕ) where
@@ -32,20 +33,24 @@ module _ (c : Circuit) (limit base : ℕ) where
   }
 
   -- a settled case is reported after those before it
-  pub of_more : (listed : List Listed) (l : Listed) (Before After : List Case → Type 0) (number rounds tick : ℕ)
-      (ws : List (Wave Value)) (fs : List Fault) → IsCaseAtRest c limit base l number rounds tick ws fs →
+  pub of_more : (listed : List Listed) (l : Listed) (Before After : List Case → Type 0)
+      (number rounds tick : ℕ)
+      (ws : List (Wave Value)) (fs : List Fault) →
+      IsCaseAtRest c limit base l number rounds tick ws fs →
       ((cases : List Case) → Before cases → After (cases ++ settled_case l rounds ws ∷ [])) →
       OfCases c limit base listed Before → OfCases c limit base (listed ++ l ∷ []) After
   of_more listed l Before After number rounds tick ws fs is more so_far =
       let case : Case = settled_case l rounds ws in
       record {
         cases = so_far.cases ++ case ∷ [];
-        at_rest = one_more_at_rest c limit base listed l so_far.cases case so_far.at_rest refl is.rest;
+        at_rest = one_more_at_rest c limit base listed l so_far.cases case so_far.at_rest refl
+            is.rest;
         kept = All-push (IsKept c base) so_far.cases case so_far.kept is.kept;
         holds = more so_far.cases so_far.holds;
       }
 
-  pub of_weaker : (listed : List Listed) (P Q : List Case → Type 0) → ((cases : List Case) → P cases → Q cases) →
+  pub of_weaker : (listed : List Listed) (P Q : List Case → Type 0) →
+      ((cases : List Case) → P cases → Q cases) →
       OfCases c limit base listed P → OfCases c limit base listed Q
   of_weaker listed P Q weaker of_cases = record {
     cases = of_cases.cases;
@@ -56,20 +61,26 @@ module _ (c : Circuit) (limit base : ℕ) where
 
 -- ---- the cases that are listed
 
-some_are_listed : (cases : List (List CaseValue)) → (length cases == 0) ≡ false → numbered 1 cases ≡ listed_cases cases
+some_are_listed : (cases : List (List CaseValue)) → (length cases == 0) ≡ false →
+    numbered 1 cases ≡ listed_cases cases
 some_are_listed [] some = absurd (cc)
 some_are_listed (values ∷ cases) some = refl
 
 -- where there are some, they are those that are numbered
-pub some_listed : (c : Circuit) (limit base : ℕ) (cases : List (List CaseValue)) (Holds : List Case → Type 0) →
-    (length cases == 0) ≡ false → OfCases c limit base (numbered 1 cases) Holds → OfCases c limit base (listed_cases cases) Holds
+pub some_listed : (c : Circuit) (limit base : ℕ) (cases : List (List CaseValue))
+    (Holds : List Case → Type 0) →
+    (length cases == 0) ≡ false → OfCases c limit base (numbered 1 cases) Holds →
+    OfCases c limit base (listed_cases cases) Holds
 some_listed c limit base cases Holds some of_cases =
-    subst (λ (ls : List Listed). OfCases c limit base ls Holds) (some_are_listed cases some) of_cases
+    subst (λ (ls : List Listed). OfCases c limit base ls Holds) (some_are_listed cases some)
+    of_cases
 
 -- where there are none, it is the one case that is listed
-pub none_listed : (c : Circuit) (limit base : ℕ) (cases : List (List CaseValue)) (Before After : List Case → Type 0) →
+pub none_listed : (c : Circuit) (limit base : ℕ) (cases : List (List CaseValue))
+    (Before After : List Case → Type 0) →
     (length cases == 0) ≡ true →
-    (OfCases c limit base [] Before → OfCases c limit base (record { number = 0; values = [] } ∷ []) After) →
+    (OfCases c limit base [] Before →
+    OfCases c limit base (record { number = 0; values = [] } ∷ []) After) →
     OfCases c limit base (numbered 1 cases) Before → OfCases c limit base (listed_cases cases) After
 none_listed c limit base [] Before After none more of_cases = more of_cases
 none_listed c limit base (values ∷ cases) Before After none more of_cases =
@@ -84,7 +95,8 @@ module _ (cases : List (List CaseValue)) (k : ℕ) (inside : k < length cases) w
 
   pub next_listed : numbered 1 (take (k + 1) cases) ≡ numbered 1 (take k cases) ++ here ∷ []
   next_listed =
-      let next : take (k + 1) cases ≡ take k cases ++ case_at cases k ∷ [] = take_more cases k [] inside in
+      let next : take (k + 1) cases ≡ take k cases ++ case_at cases k ∷ [] =
+      take_more cases k [] inside in
       ap (numbered 1) next ∙ numbered_here cases k inside []
 
   -- where there is a case, all are listed by their numbers
@@ -93,13 +105,17 @@ module _ (cases : List (List CaseValue)) (k : ℕ) (inside : k < length cases) w
   all_listed (values ∷ others) some = refl
 
   -- the case after those is the first that never settles
-  pub ends_early : (c : Circuit) (limit base : ℕ) (Holds : List Case → Type 0) (end : EngineEnd) → RestsAt (base_round c) limit base →
-      OfCases c limit base (numbered 1 (take k cases)) Holds → EndsCase c limit base here end → EndsEarly c cases limit end
+  pub ends_early : (c : Circuit) (limit base : ℕ) (Holds : List Case → Type 0) (end : EngineEnd) →
+      RestsAt (base_round c) limit base →
+      OfCases c limit base (numbered 1 (take k cases)) Holds → EndsCase c limit base here end →
+      EndsEarly c cases limit end
   ends_early c limit base Holds NoMemory rests so_far ends = tt
   ends_early c limit base Holds (Unsettled place round) rests so_far ends = (
     by_case base rests
-        (first_that_never_rests c limit base (numbered 1 (take k cases)) (listed_cases cases) (numbered (k + 1 + 1) (drop (k + 1) cases))
+        (first_that_never_rests c limit base (numbered 1 (take k cases)) (listed_cases cases)
+        (numbered (k + 1 + 1) (drop (k + 1) cases))
         here so_far.cases place so_far.at_rest
-        (sym (numbered_here cases k inside (drop (k + 1) cases)) ∙ ap (numbered 1) (around_here cases k inside) ∙ all_listed cases inside) ends.0),
+        (sym (numbered_here cases k inside (drop (k + 1) cases))
+        ∙ ap (numbered 1) (around_here cases k inside) ∙ all_listed cases inside) ends.0),
     ends.1,
   )

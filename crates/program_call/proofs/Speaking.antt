@@ -12,8 +12,10 @@ use Rattle.program_call.specs.Answer.{Reporting, Evaluated, verdict_of}
 use Rattle.program_call.proofs.Judgement.{IsOne, one_evaluated}
 use Rattle.program_call.proofs.Outcomes.{HoldsOfReports, evaluated_has}
 
-pub evaluated_speaks : (Reports : Drawing → Reporting) (rounds : Option ℕ) (text : List ℕ) (o : Outcome) (bytes : List ℕ) →
-    HoldsOfReports (λ o. end_of o ≡ None) Reports → Evaluated Reports rounds text o bytes → end_of o ≡ None
+pub evaluated_speaks : (Reports : Drawing → Reporting) (rounds : Option ℕ) (text : List ℕ)
+    (o : Outcome) (bytes : List ℕ) →
+    HoldsOfReports (λ o. end_of o ≡ None) Reports → Evaluated Reports rounds text o bytes →
+    end_of o ≡ None
 evaluated_speaks = evaluated_has (λ o. end_of o ≡ None) (λ place last. refl) (λ r. refl)
 
 -- ---- outcomes of faults
@@ -27,11 +29,14 @@ verdict_speaks n = either (n == 0) n
 
 -- ---- programs that report
 
-pub reporting_is_lawful : (name : List ℕ) (Reports : Drawing → Reporting) → HoldsOfReports (λ o. end_of o ≡ None) Reports →
+pub reporting_is_lawful : (name : List ℕ) (Reports : Drawing → Reporting) →
+    HoldsOfReports (λ o. end_of o ≡ None) Reports →
     IsOne Reports → IsLawful (reporting_program name Reports)
 reporting_is_lawful name Reports spoken one = record {
   ends = end_of_ended;
-  replies = λ request text o bytes replied. evaluated_speaks Reports None text o bytes spoken replied;
-  one = λ request text o o' bytes bytes' replied replied'. one_evaluated Reports one None text o o' bytes bytes' replied replied';
+  replies = λ request text o bytes replied. evaluated_speaks Reports None text o bytes spoken
+      replied;
+  one = λ request text o o' bytes bytes' replied replied'. one_evaluated Reports one None text o o'
+      bytes bytes' replied replied';
   unread = λ request text other o bytes none replied. absurd (cc);
 }

@@ -1,5 +1,6 @@
 -- What every main call promises of its words, of its devices, and of the bytes that it writes.
-use Rattle.std.specs.Prelude.{◌≡◌, ◌≢◌, ◌⊎◌, ℕ, ◌<◌, true, false, List, length, Option, Ok, Err, IfSome}
+use Rattle.std.specs.Prelude.{◌≡◌, ◌≢◌, ◌⊎◌, ℕ, ◌<◌, true, false, List, length, Option, Ok, Err}
+use Rattle.std.specs.Prelude.{IfSome}
 use Rattle.std.specs.Io.KnownBytes.{IsAtEnd}
 use Rattle.scald_base.specs.Device.{Rose, ReadsFront, ReadsPast}
 use Rattle.scald_base.specs.declared.call_end.CallEnd.{CallEnd}
@@ -25,10 +26,14 @@ devices left source_faults taken sink_faults = record {
 -- Why a call ends before there is a reply: no form has its words, or reading their text ends so.
 pub data EndsAsking {Command Outcome : Type 0} (m : Meaning Command Outcome) (words : List (List ℕ))
     (left left' : Option (List ℕ)) (faults faults' : ℕ) : CallEnd → Type 0 where
-  unrecognised : (i : ℕ) → m.command_of words ≡ Err i → EndsAsking m words left left' faults faults' (BadWords i)
-  past : asks m words ≡ true → ReadsPast left left' (most_for m words) → EndsAsking m words left left' faults faults' TooLong
-  failed : asks m words ≡ true → Rose faults faults' → EndsAsking m words left left' faults faults' ReadFault
-  no_room : (command : Command) → m.command_of words ≡ Ok command → EndsAsking m words left left' faults faults' NoMemory
+  unrecognised : (i : ℕ) → m.command_of words ≡ Err i →
+      EndsAsking m words left left' faults faults' (BadWords i)
+  past : asks m words ≡ true → ReadsPast left left' (most_for m words) →
+      EndsAsking m words left left' faults faults' TooLong
+  failed : asks m words ≡ true → Rose faults faults' →
+      EndsAsking m words left left' faults faults' ReadFault
+  no_room : (command : Command) → m.command_of words ≡ Ok command →
+      EndsAsking m words left left' faults faults' NoMemory
 
 -- a program that promises nothing beside its answer
 abbrev pub nothing_more : {Command Outcome : Type 0} → Command → List ℕ → Outcome → Type 0

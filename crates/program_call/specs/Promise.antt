@@ -19,7 +19,8 @@ may_count ReadFault = false
 may_count WriteFault = false
 may_count NoMemory = false
 
--- The outcome is the one that is replied and the sink took exactly these bytes, or there is no memory.
+-- The outcome is the one that is replied and the sink took exactly these bytes, or there is no
+-- memory.
 abbrev pub Writes : Outcome → List ℕ → Outcome → Option (List ℕ) → Option (List ℕ) → Type 0
 Writes replied bytes o taken taken' = (o ≡ NoMemory) ⊎ ((o ≡ replied) × Appends taken taken' bytes)
 

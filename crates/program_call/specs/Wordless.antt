@@ -38,7 +38,8 @@ wordless name Replied = record {
   end_of = end_of;
 }
 
--- It replies what is reported of the circuit, by its drawing, at its own limit of rounds, or why there is nothing to
+-- It replies what is reported of the circuit, by its drawing, at its own limit of rounds, or why
+-- there is nothing to
 -- report.
 abbrev pub reporting_program : List ℕ → (Drawing → Reporting) → Meaning Request Outcome
 reporting_program name Reports = wordless name (Evaluated Reports None)

@@ -20,7 +20,8 @@ use Rattle.scald_tool.specs.Answer as answer
 use Rattle.scald_tool.specs.Answer.{Measured, Replied, Reported}
 use Rattle.scald_tool.specs.Promise.{IsAnswered}
 use Rattle.scald_tool.specs.Report.{report}
-use Rattle.scald_tool.specs.Finished.{ComesToRest, Passes, formatted, upgraded, verified, benched, IsFinished, AsksWell}
+use Rattle.scald_tool.specs.Finished.{ComesToRest, Passes, formatted, upgraded, verified, benched}
+use Rattle.scald_tool.specs.Finished.{IsFinished, AsksWell}
 
 verdict_finished : (n : ℕ) → is_finished (verdict_of n) ≡ true
 verdict_finished n = either (n == 0) n
@@ -36,8 +37,10 @@ pub record Finishes (command : Command) (text : List ℕ) : Type 0 where
   pub is : Replied command text outcome bytes
   pub finished : is_finished outcome ≡ true
 
-rest_is_evaluated : (Reports : Drawing → Reporting) (rounds : Option ℕ) (text : List ℕ) (rest : ComesToRest rounds text) (o : Outcome)
-    (bytes : List ℕ) → Reports rest.drawn.drawing rest.circuit rest.base rest.cases o bytes → Evaluated Reports rounds text o bytes
+rest_is_evaluated : (Reports : Drawing → Reporting) (rounds : Option ℕ) (text : List ℕ)
+    (rest : ComesToRest rounds text) (o : Outcome)
+    (bytes : List ℕ) → Reports rest.drawn.drawing rest.circuit rest.base rest.cases o bytes →
+    Evaluated Reports rounds text o bytes
 rest_is_evaluated Reports rounds text rest o bytes is =
     evaluation.judged rest.circuit rest.values o bytes rest.drawn
     (evaluation.rested rest.base rest.cases o bytes rest.rests rest.at_rest is)
@@ -48,13 +51,16 @@ finishes text _ (upgraded d draws) = record { outcome = Done; bytes = upgraded_t
 finishes text _ (verified mode rounds rest) = record {
   outcome = verdict_of (fault_count rest.circuit rest.cases);
   bytes = report mode rest.drawn.drawing.version rest.circuit rest.base rest.cases;
-  is = rest_is_evaluated (λ d. Reported mode d.version) rounds text rest _ _ (record { outcome = refl; text = refl });
+  is = rest_is_evaluated (λ d. Reported mode d.version) rounds text rest _ _
+      (record { outcome = refl; text = refl });
   finished = verdict_finished (fault_count rest.circuit rest.cases);
 }
 finishes text _ (benched sections rest) = record {
   outcome = Done;
-  bytes = summary_line rest.circuit sections rest.base (tick (reach rest.circuit) rest.base 0) (fault_count rest.circuit rest.cases);
-  is = rest_is_evaluated (λ d. Measured sections) None (datapath sections) rest _ _ (record { outcome = refl; text = refl });
+  bytes = summary_line rest.circuit sections rest.base (tick (reach rest.circuit) rest.base 0)
+      (fault_count rest.circuit rest.cases);
+  is = rest_is_evaluated (λ d. Measured sections) None (datapath sections) rest _ _
+      (record { outcome = refl; text = refl });
   finished = refl;
 }
 

@@ -25,16 +25,20 @@ one_upgraded text _ _ _ _ (answer.readable d draws) (answer.unreadable r is) = a
 one_upgraded text _ _ _ _ (answer.readable d draws) (answer.readable e draws') = let same : d ≡ e = one_drawing text d e draws draws' in (refl, ap upgraded_text same)
 
 reports_are_one : (mode : Mode) → IsOne (λ d. Reported mode d.version)
-reports_are_one mode d c base cases o o' bytes bytes' is is' = (is.outcome ∙ sym is'.outcome, is.text ∙ sym is'.text)
+reports_are_one mode d c base cases o o' bytes bytes' is is' =
+    (is.outcome ∙ sym is'.outcome, is.text ∙ sym is'.text)
 
 measures_are_one : (sections : ℕ) → IsOne (λ d. Measured sections)
-measures_are_one sections d c base cases o o' bytes bytes' is is' = (is.outcome ∙ sym is'.outcome, is.text ∙ sym is'.text)
+measures_are_one sections d c base cases o o' bytes bytes' is is' =
+    (is.outcome ∙ sym is'.outcome, is.text ∙ sym is'.text)
 
 pub one_reply : (command : Command) (text : List ℕ) (o o' : Outcome) (bytes bytes' : List ℕ) →
     Replied command text o bytes → Replied command text o' bytes' → (o ≡ o') × (bytes ≡ bytes')
 one_reply (Verify mode rounds) text o o' bytes bytes' r r' =
-    one_evaluated (λ d. Reported mode d.version) (reports_are_one mode) rounds text o o' bytes bytes' r r'
+    one_evaluated (λ d. Reported mode d.version) (reports_are_one mode) rounds text o o' bytes
+    bytes' r r'
 one_reply Format text o o' bytes bytes' r r' = one_formatted text o o' bytes bytes' r r'
 one_reply Upgrade text o o' bytes bytes' r r' = one_upgraded text o o' bytes bytes' r r'
 one_reply (Bench sections) text o o' bytes bytes' r r' =
-    one_evaluated (λ d. Measured sections) (measures_are_one sections) None (datapath sections) o o' bytes bytes' r r'
+    one_evaluated (λ d. Measured sections) (measures_are_one sections) None (datapath sections) o o'
+    bytes bytes' r r'

@@ -25,7 +25,8 @@ reply_speaks Format text _ _ (answer.drawn d draws) = refl
 reply_speaks Upgrade text _ _ (answer.unreadable r is) = refl
 reply_speaks Upgrade text _ _ (answer.readable d draws) = refl
 reply_speaks (Bench sections) text o bytes r =
-    evaluated_speaks (λ d. Measured sections) None _ o bytes (λ d c base cases o bytes is. ap end_of is.outcome) r
+    evaluated_speaks (λ d. Measured sections) None _ o bytes
+    (λ d c base cases o bytes is. ap end_of is.outcome) r
 
 -- ---- what does not read does not look at the text
 

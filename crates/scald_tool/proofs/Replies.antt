@@ -16,10 +16,13 @@ use Rattle.scald_tool.specs.Answer as answer
 use Rattle.scald_tool.specs.Answer.{Formatted, Upgrades, Replied}
 
 -- the reply to a form of words is that to the words
-pub by_form : (command form : Command) (text : List ℕ) (made : Result (Reply Outcome) OutOfMemory) → command ≡ form →
-    IfOk made (λ reply. Replied form text reply.outcome reply.bytes) → IfOk made (λ reply. Replied command text reply.outcome reply.bytes)
+pub by_form : (command form : Command) (text : List ℕ) (made : Result (Reply Outcome) OutOfMemory) →
+    command ≡ form →
+    IfOk made (λ reply. Replied form text reply.outcome reply.bytes) →
+    IfOk made (λ reply. Replied command text reply.outcome reply.bytes)
 by_form command form text made is replied =
-    subst (λ (k : Command). IfOk made (λ reply. Replied k text reply.outcome reply.bytes)) (sym is) replied
+    subst (λ (k : Command). IfOk made (λ reply. Replied k text reply.outcome reply.bytes)) (sym is)
+    replied
 
 -- ---- canonical texts
 

@@ -1,5 +1,6 @@
 -- A report while it is written, case by case.
-use Rattle.std.proofs.Common.{◌≡◌, ℕ, ◌+◌, List, [], ◌∷◌, ◌++◌, length, sym, ap, ◌∙◌, arith, append-nil}
+use Rattle.std.proofs.Common.{◌≡◌, ℕ, ◌+◌, List, [], ◌∷◌, ◌++◌, length, sym, ap, ◌∙◌}
+use Rattle.std.proofs.Common.{append-nil}
 use Rattle.std.specs.List.{flat_map}
 use Rattle.std.proofs.lemmas.List.{append_assoc}
 use Rattle.std.proofs.lemmas.List.Sums.{sum_by_push}
@@ -13,7 +14,7 @@ use Rattle.listing.specs.declared.case.Mode.{Mode}
 use Rattle.listing.specs.Head.{head}
 use Rattle.listing.specs.Case.{case_lines}
 use Rattle.listing.specs.End.{last_line}
-use Rattle.timing_analysis.specs.Case.{Listed, Case, printed_tick, faults, fault_count}
+use Rattle.timing_analysis.specs.Case.{Listed, Case, faults}
 use Rattle.timing_analysis.specs.Rested.{IsCaseAtRest, settled_case}
 use Rattle.scald_base.specs.declared.outcome.Outcome.{Outcome}
 use Rattle.program_call.specs.Answer.{verdict_of}
@@ -24,7 +25,8 @@ use Rattle.scald_tool.specs.Report.{HasLines, case_text}
 module _ (mode : Mode) (version : ℕ) (c : Circuit) (base : ℕ) where
   -- the lines of one more case follow those of the others
   lines_more : (cases : List Case) (case : Case) (bytes after : List ℕ) →
-      bytes ≡ head version c ++ flat_map (case_text mode c base) cases → after ≡ bytes ++ case_text mode c base case →
+      bytes ≡ head version c ++ flat_map (case_text mode c base) cases →
+      after ≡ bytes ++ case_text mode c base case →
       after ≡ head version c ++ flat_map (case_text mode c base) (cases ++ case ∷ [])
   lines_more cases case bytes after before more =
       let one = case_text mode c base in
@@ -36,16 +38,22 @@ module _ (mode : Mode) (version : ℕ) (c : Circuit) (base : ℕ) where
       ∙ ap (λ (bs : List ℕ). flat_map one cases ++ bs) (append-nil (one case))))
 
   -- A settled case is in the report when its lines are written and its faults counted.
-  pub has_more : (report after : Report) (limit : ℕ) (l : Listed) (number rounds tick : ℕ) (ws : List (Wave Value)) (fs : List Fault)
-      (cases : List Case) → IsCaseAtRest c limit base l number rounds tick ws fs → after.mode ≡ report.mode → after.base ≡ report.base →
-      after.bytes ≡ report.bytes ++ case_lines c report.mode number report.base rounds tick (waves_of ws) fs →
+  pub has_more : (report after : Report) (limit : ℕ) (l : Listed) (number rounds tick : ℕ)
+      (ws : List (Wave Value)) (fs : List Fault)
+      (cases : List Case) → IsCaseAtRest c limit base l number rounds tick ws fs →
+      after.mode ≡ report.mode → after.base ≡ report.base →
+      after.bytes ≡ report.bytes ++ case_lines c report.mode number report.base rounds tick
+      (waves_of ws) fs →
       after.total ≡ report.total + length fs →
-      HasLines report mode version c base cases → HasLines after mode version c base (cases ++ settled_case l rounds ws ∷ [])
-  has_more report after limit l number rounds tick ws fs cases is mode_kept base_kept text count has =
+      HasLines report mode version c base cases →
+      HasLines after mode version c base (cases ++ settled_case l rounds ws ∷ [])
+  has_more report after limit l number rounds tick ws fs cases is mode_kept base_kept text count
+      has =
       let case : Case = settled_case l rounds ws in
       let lines : after.bytes ≡ report.bytes ++ case_text mode c base case =
       text
-      ∙ (λ k. report.bytes ++ case_lines c (has.mode_is k) (is.numbered k) (has.base_is k) rounds (is.printed k) (waves_of ws) (is.found k)) in
+      ∙ (λ k. report.bytes ++ case_lines c (has.mode_is k) (is.numbered k) (has.base_is k) rounds
+      (is.printed k) (waves_of ws) (is.found k)) in
       record {
         mode_is = mode_kept ∙ has.mode_is;
         base_is = base_kept ∙ has.base_is;
@@ -56,8 +64,10 @@ module _ (mode : Mode) (version : ℕ) (c : Circuit) (base : ℕ) where
             ∙ sym (sum_by_push (λ (k : Case). length (faults c k)) cases case);
       }
 
-  pub is_reported : (report : Report) (cases : List Case) (o : Outcome) (bytes : List ℕ) → o ≡ verdict_of report.total →
-      bytes ≡ report.bytes ++ last_line report.total → HasLines report mode version c base cases → Reported mode version c base cases o bytes
+  pub is_reported : (report : Report) (cases : List Case) (o : Outcome) (bytes : List ℕ) →
+      o ≡ verdict_of report.total →
+      bytes ≡ report.bytes ++ last_line report.total → HasLines report mode version c base cases →
+      Reported mode version c base cases o bytes
   is_reported report cases o bytes outcome text has = record {
     outcome = outcome ∙ ap verdict_of has.count;
     text = text ∙ (λ k. has.lines k ++ last_line (has.count k));

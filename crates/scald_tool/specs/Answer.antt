@@ -28,14 +28,17 @@ use Rattle.scald_tool.specs.Report.{report}
 abbrev pub most_bytes : ℕ
 most_bytes = 4194304
 
--- The report on a circuit that is drawn in this version of the language, and how many faults there are.
-pub record Reported (mode : Mode) (version : ℕ) (c : Circuit) (base : ℕ) (cases : List Case) (o : Outcome) (bytes : List ℕ) : Type 0 where
+-- The report on a circuit that is drawn in this version of the language, and how many faults there
+-- are.
+pub record Reported (mode : Mode) (version : ℕ) (c : Circuit) (base : ℕ) (cases : List Case)
+    (o : Outcome) (bytes : List ℕ) : Type 0 where
   pub outcome : o ≡ verdict_of (fault_count c cases)
   pub text : bytes ≡ report mode version c base cases
 
 -- The numbers of the report on so many sections: the rounds of the base, the tick that is printed for case 0, which takes no
 -- rounds, and the faults.
-pub record Measured (sections : ℕ) (c : Circuit) (base : ℕ) (cases : List Case) (o : Outcome) (bytes : List ℕ) : Type 0 where
+pub record Measured (sections : ℕ) (c : Circuit) (base : ℕ) (cases : List Case) (o : Outcome)
+    (bytes : List ℕ) : Type 0 where
   pub outcome : o ≡ Done
   pub text : bytes ≡ summary_line c sections base (tick (reach c) base 0) (fault_count c cases)
 

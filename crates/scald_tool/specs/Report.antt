@@ -16,8 +16,10 @@ case_text mode c base case = case_lines c mode case.listed.number base case.roun
 abbrev pub report : Mode → ℕ → Circuit → ℕ → List Case → List ℕ
 report mode version c base cases = head version c ++ flat_map (case_text mode c base) cases ++ last_line (fault_count c cases)
 
--- A report while it is written: it has the head and the lines of these cases, and counts their faults.
-pub record HasLines (report : Report) (mode : Mode) (version : ℕ) (c : Circuit) (base : ℕ) (cases : List Case) : Type 0 where
+-- A report while it is written: it has the head and the lines of these cases, and counts their
+-- faults.
+pub record HasLines (report : Report) (mode : Mode) (version : ℕ) (c : Circuit) (base : ℕ)
+    (cases : List Case) : Type 0 where
   pub mode_is : report.mode ≡ mode
   pub base_is : report.base ≡ base
   pub lines : report.bytes ≡ head version c ++ flat_map (case_text mode c base) cases

@@ -17,7 +17,8 @@ use Rattle.section_compose.specs.Rules.{circuits}
 use Rattle.section_compose.specs.declared.answer.End.TheVariants as end
 use Rattle.section_compose.specs.declared.outcome.SectionsOutcome.{SectionsOutcome}
 use Rattle.section_compose.specs.declared.outcome.SectionsOutcome.TheVariants.{BadCount, Refused, Unsettled}
-use Rattle.section_compose.specs.Answer.{AreEnough, HasSections, Joined, RefusesFirst, bad_count, drawn, refused}
+use Rattle.section_compose.specs.Answer.{AreEnough, HasSections, Joined, RefusesFirst, bad_count}
+use Rattle.section_compose.specs.Answer.{drawn, refused}
 use Rattle.section_compose.specs.Answer.{Concluded}
 use Rattle.section_compose.specs.Lines.{refused_lines}
 use Rattle.section_compose.specs.Reading.{IsRefusedIn}

@@ -215,7 +215,8 @@ concluded_speaks sections _ _ (answer.broken b c is at) = refl
 concluded_speaks sections _ _ (answer.unsettled s place kept stops) = refl
 concluded_speaks sections _ _ (answer.settled rests kept rest) = verdict_speaks (all_faults (circuits sections) rests)
 
-joined_speaks : (text : List ℕ) (o : SectionsOutcome) (bytes : List ℕ) → Joined text o bytes → end_of o ≡ None
+joined_speaks : (text : List ℕ) (o : SectionsOutcome) (bytes : List ℕ) → Joined text o bytes →
+    end_of o ≡ None
 joined_speaks text _ _ (answer.bad_count wrong) = refl
 joined_speaks text _ _ (answer.refused s r enough first) = refl
 joined_speaks text _ _ (answer.drawn sections o bytes has is) = concluded_speaks sections o bytes is

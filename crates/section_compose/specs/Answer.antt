@@ -1,6 +1,6 @@
 -- What is answered to the bytes of several drawings.
 use Rattle.std.specs.Prelude.{◌≡◌, ◌⊎◌, ℕ, ◌+◌, ◌-◌, ◌<◌, ◌≤◌, true, List}
-use Rattle.std.specs.Prelude.{[], ◌∷◌, length, slice_get, codes, Some, None}
+use Rattle.std.specs.Prelude.{[], length, slice_get, codes, Some, None}
 use Rattle.std.specs.List.{AllZip}
 use Rattle.scald_base.specs.declared.refusal.Refusal.{Refusal}
 use Rattle.flat_circuit.specs.Circuit.{Circuit}

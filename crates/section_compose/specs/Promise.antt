@@ -1,5 +1,5 @@
 -- What is promised of sections that are joined.
-use Rattle.std.specs.Prelude.{◌≡◌, ℕ, Bool, List, Option, None}
+use Rattle.std.specs.Prelude.{◌≡◌, ℕ, Bool, List, None}
 use Rattle.program_call.specs.Program as program
 use Rattle.section_compose.specs.declared.outcome.SectionsOutcome.{SectionsOutcome}
 use Rattle.section_compose.specs.declared.outcome.SectionsOutcome.TheVariants.{Clean}

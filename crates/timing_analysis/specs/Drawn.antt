@@ -35,7 +35,8 @@ pub record DrawsCircuit (text : List ℕ) (c : Circuit) (cases : List (List Case
   pub listed : All (IsListed c) cases
 
 -- The same, by this drawing.
-pub record DrawsBy (text : List ℕ) (d : Drawing) (c : Circuit) (cases : List (List CaseValue)) : Type 0 where
+pub record DrawsBy (text : List ℕ) (d : Drawing) (c : Circuit) (cases : List (List CaseValue)) :
+    Type 0 where
   pub draws : DrawsCircuit text c cases
   pub drawing : draws.drawing ≡ d
 

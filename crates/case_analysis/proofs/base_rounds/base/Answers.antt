@@ -1,4 +1,5 @@
-use Rattle.std.proofs.Common.{◌≡◌, ◌∙◌, ◌<◌, ◌+◌, ℕ, List, Option, length, IfErr, IfOk, sym, subst, arith}
+use Rattle.std.proofs.Common.{◌≡◌, ◌∙◌, ◌<◌, ◌+◌, ℕ, List, Option, length, IfErr, IfOk, sym, subst}
+use Rattle.std.proofs.Common.{arith}
 use Rattle.std.specs.Prelude.{IfSome}
 use Rattle.scald_base.specs.Time.{Header, period}
 use Rattle.fixpoint_engine.specs.Table.{waves_at}
@@ -20,27 +21,34 @@ use Rattle.case_analysis.proofs.base_rounds.base.Goals as goal
 
 pub settle-requires-clause-constants : goal.settle-requires-clause-constants
 settle-requires-clause-constants g c =
-    constants_still c.args.c.now.header c.constant_numbers.new.store c.start_numbers.new.store c.in_ok-constants.constants
+    constants_still c.args.c.now.header c.constant_numbers.new.store c.start_numbers.new.store
+    c.in_ok-constants.constants
     c.in_ok-start.ensures.grows
-    (subst (λ (h : Header). AreConstants h c.constant_numbers.new.store c.in_ok-constants.constants) c.header-2.ensures c.in_ok-constants.ensures.are)
+    (subst (λ (h : Header). AreConstants h c.constant_numbers.new.store c.in_ok-constants.constants)
+    c.header-2.ensures c.in_ok-constants.ensures.are)
 
 pub settle-requires-clause-hearers : goal.settle-requires-clause-hearers
 settle-requires-clause-hearers g c =
-    subst (λ (nets : Option (List ℕ)). IfSome nets (λ ks. AreHearers c.args.c.now ks c.args.classes.now.hearers)) (sym c.as_ref-nets.ensures.value)
+    subst (λ (nets : Option (List ℕ)). IfSome nets
+    (λ ks. AreHearers c.args.c.now ks c.args.classes.now.hearers))
+    (sym c.as_ref-nets.ensures.value)
     c.requires.hearers
 
 pub settle-requires-clause-classes : goal.settle-requires-clause-classes
 settle-requires-clause-classes g c =
     let circuit = c.args.c.now in
     let start = waves_of (waves_at c.start_numbers.new.store c.in_ok-start.start) in
-    subst (λ (nets : Option (List ℕ)). OneStandsForAll circuit (marked_in c.in_ok-active.active) (numbers_in (length circuit.nets) nets) start)
+    subst (λ (nets : Option (List ℕ)). OneStandsForAll circuit (marked_in c.in_ok-active.active)
+    (numbers_in (length circuit.nets) nets) start)
     (sym c.as_ref-nets.ensures.value)
-    (each_stands circuit c.args.cases.now c.in_ok-active.active c.args.classes.now.nets start c.known.ensures
+    (each_stands circuit c.args.cases.now c.in_ok-active.active c.args.classes.now.nets start
+    c.known.ensures
     (λ i on. sym (c.in_ok-active.ensures.driven i) ∙ on) c.requires.stable
     (λ ks stable. (
       as_one_wave circuit ks start (base_start circuit) c.in_ok-start.ensures.is
           (start_together circuit c.args.cases.now ks c.known.ensures stable),
-      as_together circuit ks (marked_in c.in_ok-active.active) (is_driven circuit) c.in_ok-active.ensures.driven
+      as_together circuit ks (marked_in c.in_ok-active.active) (is_driven circuit)
+          c.in_ok-active.ensures.driven
           (driven_together circuit c.args.cases.now ks c.known.ensures stable),
     )))
 
@@ -58,10 +66,14 @@ returns-clause-within g c = in_time c.settle.result c.args.c.now (marked_in c.in
 pub returns-clause-work : goal.returns-clause-work
 returns-clause-work g c =
     as_base c.args.c.now (marked_in c.in_ok-active.active) (waves_of (waves_at c.start_numbers.new.store c.in_ok-start.start))
-    (λ active first. IfOk c.settle.result (λ s. s.evals ≡ evaluations_to c.args.classes.now.nets c.args.c.now active (round c.args.c.now active first) (s.rounds + 1)))
+    (λ active first. IfOk c.settle.result
+    (λ s. s.evals ≡ evaluations_to c.args.classes.now.nets c.args.c.now active
+    (round c.args.c.now active first) (s.rounds + 1)))
     c.in_ok-active.ensures.driven (λ k i. c.in_ok-start.ensures.is i k)
-    (subst (λ (nets : Option (List ℕ)). IfOk c.settle.result (λ s. s.evals ≡ evaluations_to nets c.args.c.now (marked_in c.in_ok-active.active)
-    (round c.args.c.now (marked_in c.in_ok-active.active) (waves_of (waves_at c.start_numbers.new.store c.in_ok-start.start))) (s.rounds + 1)))
+    (subst (λ (nets : Option (List ℕ)). IfOk c.settle.result
+    (λ s. s.evals ≡ evaluations_to nets c.args.c.now (marked_in c.in_ok-active.active)
+    (round c.args.c.now (marked_in c.in_ok-active.active)
+    (waves_of (waves_at c.start_numbers.new.store c.in_ok-start.start))) (s.rounds + 1)))
     c.as_ref-nets.ensures.value c.settle.ensures.work)
 
 pub returns-clause-sound : goal.returns-clause-sound

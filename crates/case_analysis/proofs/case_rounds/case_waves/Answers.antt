@@ -1,4 +1,5 @@
-use Rattle.std.proofs.Common.{◌≡◌, ◌<◌, ◌+◌, ◌∙◌, ℕ, List, Option, length, IfOk, ap, sym, subst, arith}
+use Rattle.std.proofs.Common.{◌≡◌, ◌<◌, ◌+◌, ◌∙◌, ℕ, List, Option, length, IfOk, ap, sym, subst}
+use Rattle.std.proofs.Common.{arith}
 use Rattle.std.specs.Prelude.{IfSome}
 use Rattle.scald_base.specs.Time.{period}
 use Rattle.flat_circuit.specs.declared.case.CaseValue.{CaseValue}
@@ -15,12 +16,15 @@ use Rattle.case_analysis.proofs.Inputs.{base_permits}
 use Rattle.fixpoint_engine.proofs.Kept.{each_stands}
 use Rattle.case_analysis.proofs.Cases.{active_fits, in_cone}
 use Rattle.case_analysis.proofs.Answered.{case_ends, case_keeps, case_rests, in_time, soon}
-use Rattle.case_analysis.proofs.Together.{active_together, as_one_wave, as_together, base_together, case_together, cone_together}
+use Rattle.case_analysis.proofs.Together.{active_together, as_one_wave, as_together, base_together}
+use Rattle.case_analysis.proofs.Together.{case_together, cone_together}
 use Rattle.case_analysis.proofs.case_rounds.case_waves.Goals as goal
 
 pub settle-requires-clause-hearers : goal.settle-requires-clause-hearers
 settle-requires-clause-hearers g c =
-    subst (λ (nets : Option (List ℕ)). IfSome nets (λ ks. AreHearers c.args.c.now ks c.args.classes.now.hearers)) (sym c.as_ref-nets.ensures.value)
+    subst (λ (nets : Option (List ℕ)). IfSome nets
+    (λ ks. AreHearers c.args.c.now ks c.args.classes.now.hearers))
+    (sym c.as_ref-nets.ensures.value)
     c.requires.classes.hearers
 
 pub settle-requires-clause-classes : goal.settle-requires-clause-classes
@@ -33,26 +37,38 @@ settle-requires-clause-classes g c =
     let before = waves_of (waves_at c.args.store.now c.args.base.now.numbers) in
     let start = waves_of (waves_at c.start_numbers.new.store c.in_ok-start.start) in
     let active = c.in_ok-active.active in
-    let is_cone = subst (λ (vs : List CaseValue). IsCone circuit vs cone) c.case_at-case.ensures c.in_ok-cone.ensures.is in
-    subst (λ (nets : Option (List ℕ)). OneStandsForAll circuit (marked_in active) (numbers_in (length circuit.nets) nets) start)
+    let is_cone = subst (λ (vs : List CaseValue). IsCone circuit vs cone) c.case_at-case.ensures
+    c.in_ok-cone.ensures.is in
+    subst (λ (nets : Option (List ℕ)). OneStandsForAll circuit (marked_in active)
+    (numbers_in (length circuit.nets) nets) start)
     (sym c.as_ref-nets.ensures.value)
     (each_stands circuit cases active c.args.classes.now.nets start c.known.ensures
     (active_fits circuit active cone c.in_ok-active.ensures.is) c.requires.classes.stable
     (λ ks stable.
-    let together = cone_together circuit cases ks c.known.ensures stable number c.requires.number cone exist is_cone in (
+    let together = cone_together circuit cases ks c.known.ensures stable number c.requires.number
+    cone exist is_cone in (
       as_one_wave circuit ks start (case_start circuit (case_at cases number) cone before)
-          (λ i. c.in_ok-start.ensures.is i ∙ ap (λ (vs : List CaseValue). case_start circuit vs cone before i) c.case_at-case.ensures)
-          (case_together circuit cases ks c.known.ensures stable number c.requires.number cone before together
-          (base_together circuit cases ks c.known.ensures stable c.args.base.now.rounds c.args.base.now.rounds before c.requires.base)),
+          (λ i. c.in_ok-start.ensures.is i
+          ∙ ap (λ (vs : List CaseValue). case_start circuit vs cone before i)
+          c.case_at-case.ensures)
+          (case_together circuit cases ks c.known.ensures stable number c.requires.number cone before
+          together
+          (base_together circuit cases ks c.known.ensures stable c.args.base.now.rounds
+          c.args.base.now.rounds before c.requires.base)),
       as_together circuit ks (marked_in active) (case_active circuit cone) c.in_ok-active.ensures.is
-          (active_together circuit cases ks c.known.ensures stable number c.requires.number cone together),
+          (active_together circuit cases ks c.known.ensures stable number c.requires.number cone
+          together),
     )))
 
 pub returns-clause-rest : goal.returns-clause-rest
 returns-clause-rest g c = rw (← c.case_at-case.ensures) (
-    case_rests c.args.c.now c.case_at-case.result.now (marked_in c.in_ok-cone.cone) (marked_in c.in_ok-active.active) (waves_of (waves_at c.args.store.now c.args.base.now.numbers)) (waves_of (waves_at c.start_numbers.new.store c.in_ok-start.start))
+    case_rests c.args.c.now c.case_at-case.result.now (marked_in c.in_ok-cone.cone)
+    (marked_in c.in_ok-active.active)
+    (waves_of (waves_at c.args.store.now c.args.base.now.numbers))
+    (waves_of (waves_at c.start_numbers.new.store c.in_ok-start.start))
     c.in_ok-cone.ensures.is c.in_ok-active.ensures.is c.in_ok-start.ensures.is c.settle.result
-    (λ active first s. AreAtRest c.args.c.now active first c.args.limit s.rounds (waves_of (waves_at c.settle.new.store s.numbers))) c.settle.ensures.rest)
+    (λ active first s. AreAtRest c.args.c.now active first c.args.limit s.rounds
+    (waves_of (waves_at c.settle.new.store s.numbers))) c.settle.ensures.rest)
 
 pub returns-clause-within : goal.returns-clause-within
 returns-clause-within g c = in_time c.settle.result c.args.c.now (marked_in c.in_ok-active.active)
@@ -60,26 +76,39 @@ returns-clause-within g c = in_time c.settle.result c.args.c.now (marked_in c.in
 
 pub returns-clause-work : goal.returns-clause-work
 returns-clause-work g c = rw (← c.case_at-case.ensures) (
-    case_rests c.args.c.now c.case_at-case.result.now (marked_in c.in_ok-cone.cone) (marked_in c.in_ok-active.active) (waves_of (waves_at c.args.store.now c.args.base.now.numbers)) (waves_of (waves_at c.start_numbers.new.store c.in_ok-start.start))
+    case_rests c.args.c.now c.case_at-case.result.now (marked_in c.in_ok-cone.cone)
+    (marked_in c.in_ok-active.active)
+    (waves_of (waves_at c.args.store.now c.args.base.now.numbers))
+    (waves_of (waves_at c.start_numbers.new.store c.in_ok-start.start))
     c.in_ok-cone.ensures.is c.in_ok-active.ensures.is c.in_ok-start.ensures.is c.settle.result
-    (λ active first s. s.evals ≡ evaluations_to c.args.classes.now.nets c.args.c.now active (round c.args.c.now active first) (s.rounds + 1))
-    (subst (λ (nets : Option (List ℕ)). IfOk c.settle.result (λ s. s.evals ≡ evaluations_to nets c.args.c.now (marked_in c.in_ok-active.active)
-    (round c.args.c.now (marked_in c.in_ok-active.active) (waves_of (waves_at c.start_numbers.new.store c.in_ok-start.start))) (s.rounds + 1)))
+    (λ active first s. s.evals ≡ evaluations_to c.args.classes.now.nets c.args.c.now active
+    (round c.args.c.now active first) (s.rounds + 1))
+    (subst (λ (nets : Option (List ℕ)). IfOk c.settle.result
+    (λ s. s.evals ≡ evaluations_to nets c.args.c.now (marked_in c.in_ok-active.active)
+    (round c.args.c.now (marked_in c.in_ok-active.active)
+    (waves_of (waves_at c.start_numbers.new.store c.in_ok-start.start))) (s.rounds + 1)))
     c.as_ref-nets.ensures.value c.settle.ensures.work))
 
 pub returns-clause-sound : goal.returns-clause-sound
 returns-clause-sound g c = rw (← c.case_at-case.ensures) (
     let some : 0 < period c.args.c.now.header = subst (λ h. 0 < period h) c.header.ensures (let two = c.known-2.ensures.shortest in omega (arith, two)) in
     case_keeps c.settle.result c.args.c.now c.case_at-case.result.now (marked_in c.in_ok-cone.cone)
-    (waves_of (waves_at c.args.store.now c.args.base.now.numbers)) (waves_of (waves_at c.start_numbers.new.store c.in_ok-start.start)) c.args.base.now.rounds (λ s. s.rounds) (λ s. waves_of (waves_at c.settle.new.store s.numbers))
-    some (base_permits c.args.c.now c.args.base.now.rounds c.args.base.now.rounds (waves_of (waves_at c.args.store.now c.args.base.now.numbers))
+    (waves_of (waves_at c.args.store.now c.args.base.now.numbers))
+    (waves_of (waves_at c.start_numbers.new.store c.in_ok-start.start)) c.args.base.now.rounds
+    (λ s. s.rounds) (λ s. waves_of (waves_at c.settle.new.store s.numbers))
+    some (base_permits c.args.c.now c.args.base.now.rounds c.args.base.now.rounds
+    (waves_of (waves_at c.args.store.now c.args.base.now.numbers))
     some c.known.ensures c.requires.base) c.in_ok-start.ensures.is c.settle.ensures.sound)
 
 pub returns-clause-unsettled : goal.returns-clause-unsettled
 returns-clause-unsettled g c = rw (← c.case_at-case.ensures) (
-    case_ends c.args.c.now c.case_at-case.result.now (marked_in c.in_ok-cone.cone) (marked_in c.in_ok-active.active) (waves_of (waves_at c.args.store.now c.args.base.now.numbers)) (waves_of (waves_at c.start_numbers.new.store c.in_ok-start.start))
+    case_ends c.args.c.now c.case_at-case.result.now (marked_in c.in_ok-cone.cone)
+    (marked_in c.in_ok-active.active)
+    (waves_of (waves_at c.args.store.now c.args.base.now.numbers))
+    (waves_of (waves_at c.start_numbers.new.store c.in_ok-start.start))
     c.in_ok-cone.ensures.is c.in_ok-active.ensures.is c.in_ok-start.ensures.is c.settle.result
-    (λ active first. EndsFor c.args.c.now.order (round c.args.c.now active first) c.args.limit) c.settle.ensures.unsettled)
+    (λ active first. EndsFor c.args.c.now.order (round c.args.c.now active first) c.args.limit)
+    c.settle.ensures.unsettled)
 
 pub returns-clause-loopless : goal.returns-clause-loopless
 returns-clause-loopless g c none within =
@@ -87,4 +116,7 @@ returns-clause-loopless g c none within =
     c.known.ensures none within c.settle.ensures.rest c.settle.ensures.unsettled
 
 pub returns-clause-cone : goal.returns-clause-cone
-returns-clause-cone g c = rw (← c.case_at-case.ensures) (in_cone c.args.c.now c.case_at-case.result.now (marked_in c.in_ok-cone.cone) c.in_ok-cone.ensures.is c.settle.result)
+returns-clause-cone g c =
+    rw (← c.case_at-case.ensures)
+    (in_cone c.args.c.now c.case_at-case.result.now (marked_in c.in_ok-cone.cone)
+    c.in_ok-cone.ensures.is c.settle.result)

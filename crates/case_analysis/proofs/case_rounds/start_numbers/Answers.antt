@@ -58,4 +58,5 @@ returns-clause-fit g c =
 
 pub returns-clause-constants : goal.returns-clause-constants
 returns-clause-constants g c =
-    subst (λ (h : Header). AreConstants h c.constant_numbers.new.store c.in_ok-constants.constants) c.header-2.ensures c.in_ok-constants.ensures.are
+    subst (λ (h : Header). AreConstants h c.constant_numbers.new.store c.in_ok-constants.constants)
+    c.header-2.ensures c.in_ok-constants.ensures.are

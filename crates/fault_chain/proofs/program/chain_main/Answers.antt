@@ -11,16 +11,19 @@ use Rattle.fault_chain.proofs.program.chain_main.Goals as goal
 
 pub returns-clause-finished : goal.returns-clause-finished
 returns-clause-finished g c =
-    finished own_word (Evaluated (λ d. AreChains d.version) None) (λ text. WritesChains text _ _ _) c.args.words.now _ _ _ _ _ _
+    finished own_word (Evaluated (λ d. AreChains d.version) None) (λ text. WritesChains text _ _ _)
+    c.args.words.now _ _ _ _ _ _
     (λ text writes. is_written text _ _ _ writes) c.main_call.ensures.whole
 
 pub returns-clause-given : goal.returns-clause-given
 returns-clause-given g c spoken =
-    given_by own_word (Evaluated (λ d. AreChains d.version) None) may_count is_given c.args.words.now _ _ _ _ _ (c.main_call.ensures.replied spoken)
+    given_by own_word (Evaluated (λ d. AreChains d.version) None) may_count is_given
+    c.args.words.now _ _ _ _ _ (c.main_call.ensures.replied spoken)
 
 pub returns-clause-loopless : goal.returns-clause-loopless
 returns-clause-loopless g c text told =
-    settles own_word (Evaluated (λ d. AreChains d.version) None) is_settled c.args.words.now text _ _ _ (λ spoken. c.main_call.ensures.truthful text told spoken)
+    settles own_word (Evaluated (λ d. AreChains d.version) None) is_settled c.args.words.now text _
+    _ _ (λ spoken. c.main_call.ensures.truthful text told spoken)
 
 pub returns-clause-chains_whole : goal.returns-clause-chains_whole
 returns-clause-chains_whole g c = chains_are_whole

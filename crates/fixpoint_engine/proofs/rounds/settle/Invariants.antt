@@ -15,7 +15,8 @@ invariant-rounds g l = record {
   counted : l.kept ≡ length l.initial.store;
   constants : AreConstants l.c.header l.initial.store l.constants;
   known : AreKnown l.store l.numbers;
-  kept : Kept l.c (marked_in l.active) (numbers_in (length l.c.nets) (option_copied l.classes)) (waves_of (waves_at l.initial.store l.start))
+  kept : Kept l.c (marked_in l.active) (numbers_in (length l.c.nets) (option_copied l.classes))
+      (waves_of (waves_at l.initial.store l.start))
       (waves_at l.store l.numbers) l.queue l.rounds l.evals;
   within : l.rounds ≤ l.limit;
 }

@@ -11,16 +11,19 @@ use Rattle.margin_report.proofs.program.margin_main.Goals as goal
 
 pub returns-clause-finished : goal.returns-clause-finished
 returns-clause-finished g c =
-    finished own_word (Evaluated (λ d. AreMargins d.version) None) (λ text. WritesMargins text _ _ _) c.args.words.now _ _ _ _ _ _
+    finished own_word (Evaluated (λ d. AreMargins d.version) None)
+    (λ text. WritesMargins text _ _ _) c.args.words.now _ _ _ _ _ _
     (λ text writes. is_written text _ _ _ writes) c.main_call.ensures.whole
 
 pub returns-clause-given : goal.returns-clause-given
 returns-clause-given g c spoken =
-    given_by own_word (Evaluated (λ d. AreMargins d.version) None) may_answer is_given c.args.words.now _ _ _ _ _ (c.main_call.ensures.replied spoken)
+    given_by own_word (Evaluated (λ d. AreMargins d.version) None) may_answer is_given
+    c.args.words.now _ _ _ _ _ (c.main_call.ensures.replied spoken)
 
 pub returns-clause-loopless : goal.returns-clause-loopless
 returns-clause-loopless g c text told =
-    settles own_word (Evaluated (λ d. AreMargins d.version) None) is_settled c.args.words.now text _ _ _ (λ spoken. c.main_call.ensures.truthful text told spoken)
+    settles own_word (Evaluated (λ d. AreMargins d.version) None) is_settled c.args.words.now text _
+    _ _ (λ spoken. c.main_call.ensures.truthful text told spoken)
 
 pub returns-clause-as_written : goal.returns-clause-as_written
 returns-clause-as_written g c = tried_as_written

@@ -23,8 +23,10 @@ returns-clause-holds g c =
     on_ok_weaker c.add_case.result
     (λ more asked kept limit base before listed is so_far.
     let rest : IsCaseAtRest circuit limit base listed case.number case.settled.rounds case.tick c.new-waves.result case.faults =
-    subst (λ (ws : List (Wave Value)). IsCaseAtRest circuit limit base listed case.number case.settled.rounds case.tick ws case.faults)
+    subst (λ (ws : List (Wave Value)). IsCaseAtRest circuit limit base listed case.number
+    case.settled.rounds case.tick ws case.faults)
     (sym same) is.rest in
-    of_more circuit limit base before listed _ _ case.number case.settled.rounds case.tick c.new-waves.result case.faults rest
+    of_more circuit limit base before listed _ _ case.number case.settled.rounds case.tick
+    c.new-waves.result case.faults rest
     (λ cases holds. more asked kept limit base listed cases rest holds) so_far)
     c.add_case.ensures.holds

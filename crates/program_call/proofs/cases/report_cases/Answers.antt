@@ -19,11 +19,13 @@ begin-requires g c =
 pub returns-in_err-rested-clause-ended : goal.returns-in_err-rested-clause-ended
 returns-in_err-rested-clause-ended g c =
     let p = err_from_is_err_and c.from_residual.result c.from_residual.ensures.1 in
-    rw (p.1, p.2) (base_early c.args.subject.now.circuit c.args.subject.now.cases c.args.limit c.in_err-rested.field-0.0 c.in_err-rested.ensures.unsettled)
+    rw (p.1, p.2) (base_early c.args.subject.now.circuit c.args.subject.now.cases c.args.limit
+    c.in_err-rested.field-0.0 c.in_err-rested.ensures.unsettled)
 
 pub loop-place-init : goal.loop-place-init
 loop-place-init g c = record {
-  so_far = of_none c.args.subject.now.circuit c.args.limit c.in_ok-rested.rested.base.rounds _ c.in_ok-reporter.ensures.holds;
+  so_far = of_none c.args.subject.now.circuit c.args.limit c.in_ok-rested.rested.base.rounds _
+      c.in_ok-reporter.ensures.holds;
   ready = c.in_ok-reporter.ensures.ready;
   rest = c.in_ok-rested.ensures.rest;
   same = refl;
@@ -47,7 +49,8 @@ add_case-requires-clause-few g c = c.in_ok-case.ensures.rest.rest.few
 
 pub returns-in_err-case-clause-ended : goal.returns-in_err-case-clause-ended
 returns-in_err-case-clause-ended g c =
-    let p = err_from_is_err_and c.from_residual-in_err-case.result c.from_residual-in_err-case.ensures.1 in
+    let p = err_from_is_err_and c.from_residual-in_err-case.result
+    c.from_residual-in_err-case.ensures.1 in
     let len = c.len-place-end.ensures in
     let test = c.loop-place-test.true in
     let cases = c.args.subject.now.cases in
@@ -58,7 +61,8 @@ returns-in_err-case-clause-ended g c =
     let invariant = c.loop-place.invariant in
     rw (p.1, p.2) (ends_early cases place inside circuit c.args.limit base _ c.in_err-case.field-0.0
     c.in_ok-rested.ensures.rest.rest.rest.rests invariant.so_far
-    (ends_from circuit c.args.limit base c.loop-place.rested.base.rounds (here cases place inside) c.in_err-case.field-0.0 invariant.same
+    (ends_from circuit c.args.limit base c.loop-place.rested.base.rounds (here cases place inside)
+    c.in_err-case.field-0.0 invariant.same
     c.in_err-case.ensures.unsettled))
 
 pub loop-place-preserved : goal.loop-place-preserved
@@ -74,14 +78,18 @@ loop-place-preserved g c =
     let invariant = c.loop-place.invariant in
     let case = c.in_ok-case.case in
     let rest =
-    subst (λ (b : ℕ). IsCaseIn circuit limit b (here cases place inside) case.number case.settled.rounds case.tick
-    c.case.new.rested.store case.settled.numbers case.faults) invariant.same c.in_ok-case.ensures.rest in
+    subst (λ (b : ℕ). IsCaseIn circuit limit b (here cases place inside) case.number
+    case.settled.rounds case.tick
+    c.case.new.rested.store case.settled.numbers case.faults) invariant.same
+    c.in_ok-case.ensures.rest in
     record {
       so_far =
           subst (λ (ls : List Listed). OfCases circuit limit base ls
-          (λ (some : List Case). g.R.Reporter.holds c.add_case.new.reporter c.args.asked c.args.kept circuit base some))
+          (λ (some : List Case). g.R.Reporter.holds c.add_case.new.reporter c.args.asked c.args.kept
+          circuit base some))
           (sym (next_listed cases place inside))
-          (c.in_ok-add_case.ensures.holds c.args.asked c.args.kept limit base (numbered 1 (take place cases)) (here cases place inside)
+          (c.in_ok-add_case.ensures.holds c.args.asked c.args.kept limit base
+          (numbered 1 (take place cases)) (here cases place inside)
           rest invariant.so_far);
       ready = c.in_ok-add_case.ensures.ready;
       rest = c.in_ok-case.ensures.kept;
@@ -90,12 +98,14 @@ loop-place-preserved g c =
 
 pub returns-in_err-reporter-clause-ended : goal.returns-in_err-reporter-clause-ended
 returns-in_err-reporter-clause-ended g c =
-    let p = err_from_is_err_and c.from_residual-in_err-reporter.result c.from_residual-in_err-reporter.ensures.1 in
+    let p = err_from_is_err_and c.from_residual-in_err-reporter.result
+    c.from_residual-in_err-reporter.ensures.1 in
     rw (p.1, p.2) tt
 
 pub returns-in_err-add_case-clause-ended : goal.returns-in_err-add_case-clause-ended
 returns-in_err-add_case-clause-ended g c =
-    let p = err_from_is_err_and c.from_residual-in_err-add_case.result c.from_residual-in_err-add_case.ensures.1 in
+    let p = err_from_is_err_and c.from_residual-in_err-add_case.result
+    c.from_residual-in_err-add_case.ensures.1 in
     rw (p.1, p.2) tt
 
 pub add_only_case-requires-clause-ready : goal.add_only_case-requires-clause-ready
@@ -103,8 +113,10 @@ add_only_case-requires-clause-ready g c =
     let len = c.len-place-end.ensures in
     let past = c.loop-place-test.false in
     let most = c.loop-place.auto.place-end in
-    let all : c.loop-place.place ≡ length c.args.subject.now.cases = omega (arith, len, past, most) in
-    subst (g.R.Reporter.ready c.loop-place.reporter c.args.subject.now.circuit) all c.loop-place.invariant.ready
+    let all : c.loop-place.place ≡ length c.args.subject.now.cases =
+    omega (arith, len, past, most) in
+    subst (g.R.Reporter.ready c.loop-place.reporter c.args.subject.now.circuit) all
+    c.loop-place.invariant.ready
 
 pub end-requires : goal.end-requires
 end-requires g c = c.in_ok-add_only_case.ensures.ready
@@ -120,13 +132,15 @@ returns-clause-reported g c =
     let kept = c.args.kept in
     let base = c.loop-place.rested.base.rounds in
     let invariant = c.loop-place.invariant in
-    let whole : take c.loop-place.place cases ≡ cases = take_all c.loop-place.place cases (omega (arith, len, past)) in
+    let whole : take c.loop-place.place cases ≡ cases =
+    take_all c.loop-place.place cases (omega (arith, len, past)) in
     let reporter = c.loop-place.reporter in
     let so_far =
     subst (λ (xs : List (List CaseValue)). OfCases circuit limit base (numbered 1 xs)
     (λ (some : List Case). g.R.Reporter.holds reporter asked kept circuit base some)) whole
     (subst (λ (b : ℕ). OfCases circuit limit b (numbered 1 (take c.loop-place.place cases))
-    (λ (some : List Case). g.R.Reporter.holds reporter asked kept circuit b some)) (sym invariant.same) invariant.so_far) in
+    (λ (some : List Case). g.R.Reporter.holds reporter asked kept circuit b some))
+    (sym invariant.same) invariant.so_far) in
     record {
       base = base;
       rests = invariant.rest.rest.rest.rests;

@@ -8,13 +8,15 @@ pub returns-in-Err-clause-refused : goal.returns-in-Err-clause-refused
 returns-in-Err-clause-refused g c r e = undrawn (c.in-Err.ensures.refused r e)
 
 pub returns-in-Err-circuit_of-clause-refused : goal.returns-in-Err-circuit_of-clause-refused
-returns-in-Err-circuit_of-clause-refused g c r e = c.in-Err-circuit_of.ensures.refused c.args.text.now r c.in-Ok.ensures.drawn e
+returns-in-Err-circuit_of-clause-refused g c r e =
+    c.in-Err-circuit_of.ensures.refused c.args.text.now r c.in-Ok.ensures.drawn e
 
 pub returns-clause-read : goal.returns-clause-read
 returns-clause-read g c =
     let d = drawing_of c.in-Ok.drawing in
     let subject = c.in_ok-subject.subject in
-    let by = subject_drawn c.args.text.now d c.in-Ok-circuit_of.drawn.circuit subject.circuit c.in-Ok-circuit_of.drawn.cases subject.cases
+    let by = subject_drawn c.args.text.now d c.in-Ok-circuit_of.drawn.circuit subject.circuit
+    c.in-Ok-circuit_of.drawn.cases subject.cases
     c.in_ok-subject.ensures.circuit c.in_ok-subject.ensures.cases
     (c.in-Ok-circuit_of.ensures.drawn c.args.text.now c.in-Ok.ensures.drawn) in
     record {

@@ -1,7 +1,5 @@
-use Rattle.std.proofs.Common.{◌∙◌, ap, arith, length, None}
-use Rattle.std.proofs.lemmas.Result.{IfOk-weaker}
+use Rattle.std.proofs.Common.{◌∙◌, ap, arith, length}
 use Rattle.design_gen.proofs.Sections.{datapath_short}
-use Rattle.scald_tool.specs.Answer.{Measured}
 use Rattle.scald_tool.proofs.bench.bench.Goals as goal
 
 pub reply_to-requires-clause-short : goal.reply_to-requires-clause-short

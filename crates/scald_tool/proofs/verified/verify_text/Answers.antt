@@ -13,10 +13,12 @@ returns-in-Ok-extend-clause-whole g c =
 
 pub returns-in-Ok-extend-clause-no_memory : goal.returns-in-Ok-extend-clause-no_memory
 returns-in-Ok-extend-clause-no_memory g c none =
-    given_remembers c.args.mode c.args.rounds _ _ (is_given (Verify c.args.mode c.args.rounds) c.args.text.now _ _ c.in-Ok.ensures.is) none
+    given_remembers c.args.mode c.args.rounds _ _
+    (is_given (Verify c.args.mode c.args.rounds) c.args.text.now _ _ c.in-Ok.ensures.is) none
 
 pub returns-in-Ok-extend-clause-given : goal.returns-in-Ok-extend-clause-given
-returns-in-Ok-extend-clause-given g c = inr (is_given (Verify c.args.mode c.args.rounds) c.args.text.now _ _ c.in-Ok.ensures.is)
+returns-in-Ok-extend-clause-given g c =
+    inr (is_given (Verify c.args.mode c.args.rounds) c.args.text.now _ _ c.in-Ok.ensures.is)
 
 pub returns-in-Ok-extend-clause-clean : goal.returns-in-Ok-extend-clause-clean
 returns-in-Ok-extend-clause-clean g c clean =
@@ -29,5 +31,6 @@ returns-in-Ok-extend-clause-faultless g c has = c.in-Ok.ensures.faultless (repor
 pub returns-in-Ok-extend-clause-loopless : goal.returns-in-Ok-extend-clause-loopless
 returns-in-Ok-extend-clause-loopless g c place round none free =
     verified_settles c.args.mode c.args.text.now _ _
-    (subst (λ (rounds : Option ℕ). Verified c.args.mode rounds c.args.text.now c.in-Ok.reply.outcome c.in-Ok.reply.bytes) none c.in-Ok.ensures.is)
+    (subst (λ (rounds : Option ℕ). Verified c.args.mode rounds c.args.text.now c.in-Ok.reply.outcome
+    c.in-Ok.reply.bytes) none c.in-Ok.ensures.is)
     free place round

@@ -22,13 +22,17 @@ use Rattle.section_compose.proofs.evaluated.settled.Goals as goal
 
 pub settle-requires-clause-constants : goal.settle-requires-clause-constants
 settle-requires-clause-constants g c =
-    constants_still c.args.c.now.header c.constant_numbers.new.store c.section_start.new.store c.in_ok-constants.constants
+    constants_still c.args.c.now.header c.constant_numbers.new.store c.section_start.new.store
+    c.in_ok-constants.constants
     c.in_ok-start.ensures.grows
-    (subst (λ (h : Header). AreConstants h c.constant_numbers.new.store c.in_ok-constants.constants) c.header-2.ensures c.in_ok-constants.ensures.are)
+    (subst (λ (h : Header). AreConstants h c.constant_numbers.new.store c.in_ok-constants.constants)
+    c.header-2.ensures c.in_ok-constants.ensures.are)
 
 pub settle-requires-clause-hearers : goal.settle-requires-clause-hearers
 settle-requires-clause-hearers g c =
-    subst (λ (nets : Option (List ℕ)). IfSome nets (λ ks. AreHearers c.args.c.now ks c.in_ok-classes.classes.hearers)) (sym c.as_ref-nets.ensures.value)
+    subst (λ (nets : Option (List ℕ)). IfSome nets
+    (λ ks. AreHearers c.args.c.now ks c.in_ok-classes.classes.hearers))
+    (sym c.as_ref-nets.ensures.value)
     c.in_ok-classes.ensures.hearers
 
 pub settle-requires-clause-classes : goal.settle-requires-clause-classes
@@ -37,15 +41,21 @@ settle-requires-clause-classes g c =
     let cases = c.push.new.self in
     let start = waves_of (waves_at c.section_start.new.store c.in_ok-start.start) in
     let listed : cases ≡ c.args.case ∷ [] =
-    c.in_ok-push.ensures.ok ∙ ap (λ (before : List (List CaseValue)). before ++ c.args.case ∷ []) c.new-cases.ensures in
-    subst (λ (nets : Option (List ℕ)). OneStandsForAll circuit (marked_in c.in_ok-active.active) (numbers_in (length circuit.nets) nets) start)
+    c.in_ok-push.ensures.ok
+    ∙ ap (λ (before : List (List CaseValue)). before ++ c.args.case ∷ []) c.new-cases.ensures in
+    subst (λ (nets : Option (List ℕ)). OneStandsForAll circuit (marked_in c.in_ok-active.active)
+    (numbers_in (length circuit.nets) nets) start)
     (sym c.as_ref-nets.ensures.value)
-    (each_stands circuit cases c.in_ok-active.active c.in_ok-classes.classes.nets start c.known.ensures
+    (each_stands circuit cases c.in_ok-active.active c.in_ok-classes.classes.nets start
+    c.known.ensures
     (λ i on. sym (c.in_ok-active.ensures.driven i) ∙ on) c.in_ok-classes.ensures.stable
     (λ ks stable. (
-      as_one_wave circuit ks start (start_with circuit (is_set c.args.case)) c.in_ok-start.ensures.is
-          (start_alike circuit c.args.case ks c.known.ensures (subst (λ (listed : List (List CaseValue)). IsStable circuit listed ks) listed stable)),
-      as_together circuit ks (marked_in c.in_ok-active.active) (is_driven circuit) c.in_ok-active.ensures.driven
+      as_one_wave circuit ks start (start_with circuit (is_set c.args.case))
+          c.in_ok-start.ensures.is
+          (start_alike circuit c.args.case ks c.known.ensures
+          (subst (λ (listed : List (List CaseValue)). IsStable circuit listed ks) listed stable)),
+      as_together circuit ks (marked_in c.in_ok-active.active) (is_driven circuit)
+          c.in_ok-active.ensures.driven
           (driven_together circuit cases ks c.known.ensures stable),
     )))
 

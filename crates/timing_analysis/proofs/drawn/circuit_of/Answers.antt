@@ -1,7 +1,8 @@
 use Rattle.std.proofs.Common.{refl}
 use Rattle.drawing_tree.specs.Tree.{drawing_of}
 use Rattle.macro_expander.specs.Stands.{IsCircuitOf}
-use Rattle.timing_analysis.proofs.Reading.{expansion_refusal, cases_refusal, cases_are, listed_exist}
+use Rattle.timing_analysis.proofs.Reading.{expansion_refusal, cases_refusal, cases_are}
+use Rattle.timing_analysis.proofs.Reading.{listed_exist}
 use Rattle.timing_analysis.proofs.drawn.circuit_of.Goals as goal
 
 pub returns-in-Err-clause-refused : goal.returns-in-Err-clause-refused
@@ -11,14 +12,21 @@ returns-in-Err-clause-refused c text r draws e =
 pub returns-in-Err-finish-clause-refused : goal.returns-in-Err-finish-clause-refused
 returns-in-Err-finish-clause-refused c text r draws e =
     let d = drawing_of c.args.drawing in
-    expansion_refusal text d c.in-Err-finish.stop r draws (c.in-Err-finish.ensures d c.in-Ok.ensures) e
+    expansion_refusal text d c.in-Err-finish.stop r draws
+    (c.in-Err-finish.ensures d c.in-Ok.ensures) e
 
 pub returns-clause-refused : goal.returns-clause-refused
 returns-clause-refused c text r draws e =
     let d = drawing_of c.args.drawing in
     cases_refusal text d c.in-Ok-finish.circuit
-    (record { drawn = draws; circuit = c.in-Ok-finish.ensures d c.in-Ok.ensures; is_circuit = c.known.ensures })
-    c.in-Err-check_cases.stop r (rw c.written_cases-written.ensures at c.in-Err-check_cases.ensures.is) e
+    (record {
+      drawn = draws;
+      circuit = c.in-Ok-finish.ensures d c.in-Ok.ensures;
+      is_circuit =
+          c.known.ensures;
+    })
+    c.in-Err-check_cases.stop r
+    (rw c.written_cases-written.ensures at c.in-Err-check_cases.ensures.is) e
 
 pub returns-in-Ok-check_cases-clause-drawn : goal.returns-in-Ok-check_cases-clause-drawn
 returns-in-Ok-check_cases-clause-drawn c text draws =

@@ -1,4 +1,4 @@
-use Rattle.std.proofs.Common.{◌∙◌, ap, List, subst}
+use Rattle.std.proofs.Common.{subst}
 use Rattle.std.proofs.lemmas.Result.{IfOk-weaker}
 use Rattle.drawing_notes.specs.declared.reply.Kept.{Kept}
 use Rattle.drawing_notes.specs.Report.{AreNotes}

@@ -12,6 +12,8 @@ returns c = λ asked version base cases holds.
       text =
           c.in_ok-add_count.ensures
           ∙ (λ j. c.in_ok-add_rows.ensures j ++ count_line (c.len.ensures j))
-          ∙ (λ j. (c.in_ok-write_period.ensures.ok j ++ flat_map (margin_line d) (c.as_slice.ensures j)) ++ count_line (length c.args.self.rows))
-          ∙ (λ j. ((c.new-bytes.ensures j ++ period_line (holds.0 j) d) ++ flat_map (margin_line d) (holds.1 j)) ++ count_line (length (holds.1 j)));
+          ∙ (λ j. (c.in_ok-write_period.ensures.ok j ++ flat_map (margin_line d)
+          (c.as_slice.ensures j)) ++ count_line (length c.args.self.rows))
+          ∙ (λ j. ((c.new-bytes.ensures j ++ period_line (holds.0 j) d) ++ flat_map (margin_line d)
+          (holds.1 j)) ++ count_line (length (holds.1 j)));
     }

@@ -3,4 +3,5 @@ use Rattle.scald_tool.proofs.report.ReportReporter.end.Goals as goal
 
 pub returns : goal.returns
 returns c mode version base cases has =
-    is_reported mode version c.args._circuit.now base c.args.self cases _ _ c.verdict.ensures c.in_ok-end_report.ensures.ok has
+    is_reported mode version c.args._circuit.now base c.args.self cases _ _ c.verdict.ensures
+    c.in_ok-end_report.ensures.ok has

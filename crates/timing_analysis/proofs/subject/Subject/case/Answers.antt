@@ -8,19 +8,22 @@ use Rattle.timing_analysis.proofs.Stored.{base_grown, own_limit}
 use Rattle.timing_analysis.proofs.subject.Subject.case.Goals as goal
 
 pub case_waves-requires-clause-known : goal.case_waves-requires-clause-known
-case_waves-requires-clause-known g c = (c.in_ok-shorten.ensures.kept c.args.self.now.circuit c.args.limit c.requires.rest).are
+case_waves-requires-clause-known g c =
+    (c.in_ok-shorten.ensures.kept c.args.self.now.circuit c.args.limit c.requires.rest).are
 
 pub case_waves-requires-clause-base : goal.case_waves-requires-clause-base
 case_waves-requires-clause-base g c =
     own_limit c.args.self.now.circuit c.args.limit _ _ (c.in_ok-shorten.ensures.kept c.args.self.now.circuit c.args.limit c.requires.rest).rest.rest
 
 pub case_waves-requires-clause-fit : goal.case_waves-requires-clause-fit
-case_waves-requires-clause-fit g c = (c.in_ok-shorten.ensures.kept c.args.self.now.circuit c.args.limit c.requires.rest).rest.fit
+case_waves-requires-clause-fit g c =
+    (c.in_ok-shorten.ensures.kept c.args.self.now.circuit c.args.limit c.requires.rest).rest.fit
 
 pub returns-in_err-settled-clause-kept : goal.returns-in_err-settled-clause-kept
 returns-in_err-settled-clause-kept g c =
     let p = err_from_is_err_and c.from_residual-in_err-settled.result c.from_residual-in_err-settled.ensures.1 in
-    rw (p.1, p.2) (λ other. base_grown c.args.self.now.circuit c.args.limit c.shorten.new.self.base.rounds c.shorten.new.self.store c.case_waves.new.store
+    rw (p.1, p.2) (λ other. base_grown c.args.self.now.circuit c.args.limit
+    c.shorten.new.self.base.rounds c.shorten.new.self.store c.case_waves.new.store
     c.shorten.new.self.base.numbers c.shorten.new.self.known c.in_err-settled.ensures.grows (c.in_ok-shorten.ensures.kept c.args.self.now.circuit c.args.limit c.requires.rest))
 
 pub returns-in_err-settled-clause-unsettled : goal.returns-in_err-settled-clause-unsettled
@@ -34,19 +37,27 @@ returns-in_err-settled-clause-unsettled g c =
     c.in_err-settled.ensures.cone c.in_err-settled.ensures.unsettled))
 
 pub faults_from-requires-clause-base : goal.faults_from-requires-clause-base
-faults_from-requires-clause-base g c = (base_grown c.args.self.now.circuit c.args.limit c.shorten.new.self.base.rounds c.shorten.new.self.store c.case_waves.new.store
+faults_from-requires-clause-base g c =
+    (base_grown c.args.self.now.circuit c.args.limit c.shorten.new.self.base.rounds
+    c.shorten.new.self.store c.case_waves.new.store
     c.shorten.new.self.base.numbers c.shorten.new.self.known c.in_ok-settled.ensures.grows (c.in_ok-shorten.ensures.kept c.args.self.now.circuit c.args.limit c.requires.rest)).are
 
 pub faults_from-requires-clause-before : goal.faults_from-requires-clause-before
-faults_from-requires-clause-before g c = (base_grown c.args.self.now.circuit c.args.limit c.shorten.new.self.base.rounds c.shorten.new.self.store c.case_waves.new.store
+faults_from-requires-clause-before g c =
+    (base_grown c.args.self.now.circuit c.args.limit c.shorten.new.self.base.rounds
+    c.shorten.new.self.store c.case_waves.new.store
     c.shorten.new.self.base.numbers c.shorten.new.self.known c.in_ok-settled.ensures.grows (c.in_ok-shorten.ensures.kept c.args.self.now.circuit c.args.limit c.requires.rest)).rest.fit
 
 pub faults_from-requires-clause-known : goal.faults_from-requires-clause-known
-faults_from-requires-clause-known g c = (base_grown c.args.self.now.circuit c.args.limit c.shorten.new.self.base.rounds c.shorten.new.self.store c.case_waves.new.store
+faults_from-requires-clause-known g c =
+    (base_grown c.args.self.now.circuit c.args.limit c.shorten.new.self.base.rounds
+    c.shorten.new.self.store c.case_waves.new.store
     c.shorten.new.self.base.numbers c.shorten.new.self.known c.in_ok-settled.ensures.grows (c.in_ok-shorten.ensures.kept c.args.self.now.circuit c.args.limit c.requires.rest)).rest.are_known
 
 pub returns-clause-kept : goal.returns-clause-kept
-returns-clause-kept g c = base_grown c.args.self.now.circuit c.args.limit c.shorten.new.self.base.rounds c.shorten.new.self.store c.case_waves.new.store
+returns-clause-kept g c =
+    base_grown c.args.self.now.circuit c.args.limit c.shorten.new.self.base.rounds
+    c.shorten.new.self.store c.case_waves.new.store
     c.shorten.new.self.base.numbers c.shorten.new.self.known c.in_ok-settled.ensures.grows (c.in_ok-shorten.ensures.kept c.args.self.now.circuit c.args.limit c.requires.rest)
 
 pub returns-clause-rest : goal.returns-clause-rest
@@ -54,7 +65,8 @@ returns-clause-rest g c =
     let kept = c.in_ok-shorten.ensures.kept c.args.self.now.circuit c.args.limit c.requires.rest in
     let values = case_at c.args.self.now.cases c.args.place in
     subst (λ b. IsCaseIn c.args.self.now.circuit c.args.limit b (record { number = c.args.place + 1; values = values }) (c.args.place + 1)
-    c.in_ok-settled.settled.rounds c.tick-tick.result c.case_waves.new.store c.in_ok-settled.settled.numbers c.in_ok-found.found)
+    c.in_ok-settled.settled.rounds c.tick-tick.result c.case_waves.new.store
+    c.in_ok-settled.settled.numbers c.in_ok-found.found)
     c.shorten.ensures.round
     (record {
       are = c.in_ok-settled.ensures.known;
