@@ -24,7 +24,7 @@ use Rattle.fixpoint_engine.specs.Waves.{Waves, waves_of}
 use Rattle.fault_chain.specs.declared.chain.Link.{Link}
 use Rattle.fault_chain.specs.declared.chain.End.TheVariants.{Level, Repeat, Undriven, Both}
 use Rattle.fault_chain.specs.declared.chain.Chain.{Chain}
-use Rattle.fault_chain.specs.Chain.{chain_of, first_link}
+use Rattle.fault_chain.specs.Chain.{chain_of, first_link, next_link, through_first}
 use Rattle.fault_chain.specs.Report.{end_line, link_line, number_line}
 
 abbrev header : Header
@@ -113,6 +113,40 @@ at_a_level : chain_in (late 0 0) (element Buf (late 1 1) (pin 0 ∷ [])) (waves_
     ≡ record { links = link 1 6 One ∷ []; end = Level }
 unfolding chain_of back earlier
 at_a_level = refl
+
+-- ---- which pin a link goes through
+
+-- Over A and X, late by so much: in slot 6 A shows its fall of slot 4, and X its own change.
+abbrev through_pins : ℕ → Bounds → List Pin → Option Link
+through_pins p d pins =
+    through_first (circuit (late 0 0) (element And (late 0 0) [])) changing p d pins
+
+both_may : through_pins 6 (late 0 2) (pin 0 ∷ pin 1 ∷ []) ≡ Some (link 0 4 F)
+unfolding back earlier
+both_may = refl
+
+-- the first pin is taken, whichever net it is on
+both_may_turned : through_pins 6 (late 0 2) (pin 1 ∷ pin 0 ∷ []) ≡ Some (link 1 6 C)
+unfolding back earlier
+both_may_turned = refl
+
+the_second_alone : through_pins 6 (late 0 1) (pin 0 ∷ pin 1 ∷ []) ≡ Some (link 1 6 C)
+unfolding back earlier
+the_second_alone = refl
+
+the_first_alone : through_pins 5 (late 0 1) (pin 0 ∷ pin 1 ∷ []) ≡ Some (link 0 4 F)
+unfolding back earlier
+the_first_alone = refl
+
+none_may : through_pins 5 (late 0 0) (pin 0 ∷ pin 1 ∷ []) ≡ None
+unfolding back earlier
+none_may = refl
+
+-- an element listens to the pins behind its input too: those of a register's set and reset
+past_the_input : next_link (circuit (late 0 0) (element RegRs (late 0 0) [])) changing
+    (element RegRs (late 0 2) (constant ∷ pin 1 ∷ constant ∷ pin 0 ∷ [])) 6 ≡ Some (link 0 4 F)
+unfolding back earlier
+past_the_input = refl
 
 -- ---- faults of checkers and of marks
 
