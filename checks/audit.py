@@ -37,7 +37,7 @@ STEPS = (
     )),
     ("Rounds of waves: that they settle, and the printed tick", (
         ("case_analysis/specs/Base", "base_round"),
-        ("timing_analysis/specs/Case", "AreAtRest"),
+        ("timing_analysis/specs/Case", "AreSettled"),
         ("timing_analysis/specs/Case", "printed_tick"),
     )),
     ("From a text to its circuit and its cases", (

@@ -10,10 +10,10 @@ use Rattle.fixpoint_engine.specs.declared.rounds.EngineEnd.{EngineEnd}
 use Rattle.fixpoint_engine.specs.declared.rounds.EngineEnd.TheVariants.{NoMemory}
 use Rattle.fixpoint_engine.specs.Rounds.{round}
 use Rattle.fixpoint_engine.specs.Start.{base_start}
-use Rattle.fixpoint_engine.specs.Settled.{AreAtRest, KeepRuns}
+use Rattle.fixpoint_engine.specs.Settled.{AreSettled, KeepRuns}
 use Rattle.fixpoint_engine.specs.End.{EndsFor}
 use Rattle.fixpoint_engine.specs.Loops.{HasNoLoop}
-use Rattle.fixpoint_engine.proofs.Rest.{rests_soon, rests_within}
+use Rattle.fixpoint_engine.proofs.Settling.{settles_soon, settles_within}
 use Rattle.case_analysis.specs.Base.{PermitInputs}
 use Rattle.case_analysis.specs.Case.{IsCone, PermitCase, case_active, case_start}
 use Rattle.case_analysis.proofs.Inputs.{inputs_permitted}
@@ -22,17 +22,17 @@ use Rattle.case_analysis.proofs.Cases.{as_case, case_permitted}
 -- ---- its rounds
 
 pub in_time : {A : Type 0} (result : Result A EngineEnd) (c : Circuit) (active : ℕ → Bool) (first : Waves) (limit : ℕ) (rounds : A → ℕ) (waves : A → Waves) →
-    IfOk result (λ s. AreAtRest c active first limit (rounds s) (waves s)) → IfOk result (λ s. rounds s ≤ limit)
-in_time (Ok s) c active first limit rounds waves rest = rest.rests.within
-in_time (Err e) c active first limit rounds waves rest = tt
+    IfOk result (λ s. AreSettled c active first limit (rounds s) (waves s)) → IfOk result (λ s. rounds s ≤ limit)
+in_time (Ok s) c active first limit rounds waves settled = settled.settles.within
+in_time (Err e) c active first limit rounds waves settled = tt
 
 -- without a loop through listening pins
 pub soon : {A : Type 0} (result : Result A EngineEnd) (c : Circuit) (active : ℕ → Bool) (first : Waves) (limit : ℕ) (rounds : A → ℕ) (waves : A → Waves) →
     IsCircuit c → HasNoLoop c → outputs c.instances ≤ limit →
-    IfOk result (λ s. AreAtRest c active first limit (rounds s) (waves s)) → IfErr result (EndsFor c.order (round c active first) limit) →
+    IfOk result (λ s. AreSettled c active first limit (rounds s) (waves s)) → IfErr result (EndsFor c.order (round c active first) limit) →
     MatchResult result (λ s. rounds s ≤ outputs c.instances) (λ e. e ≡ NoMemory)
-soon (Ok s) c active first limit rounds waves known none within rest ends = rests_soon c active first limit (rounds s) known none rest.rests
-soon (Err e) c active first limit rounds waves known none within rest ends = rests_within c active first limit e known none within ends
+soon (Ok s) c active first limit rounds waves known none within settled ends = settles_soon c active first limit (rounds s) known none settled.settles
+soon (Err e) c active first limit rounds waves known none within settled ends = settles_within c active first limit e known none within ends
 
 -- ---- the base
 
@@ -54,10 +54,10 @@ case_keeps (Err e) c vs cone base first before rounds waves some inputs start ke
 -- written as.
 module _ (c : Circuit) (vs : List CaseValue) (marks active : ℕ → Bool) (base first : Waves) (marked : IsCone c vs marks)
     (of : (i : ℕ) → active i ≡ case_active c marks i) (from : (i : ℕ) → first i ≡ case_start c vs marks base i) where
-  pub case_rests : {A : Type 0} (result : Result A EngineEnd) (P : (ℕ → Bool) → Waves → A → Type 0) → IfOk result (P active first) →
+  pub case_settles : {A : Type 0} (result : Result A EngineEnd) (P : (ℕ → Bool) → Waves → A → Type 0) → IfOk result (P active first) →
       IfOk result (λ s. (cone : ℕ → Bool) → IsCone c vs cone → P (case_active c cone) (case_start c vs cone base) s)
-  case_rests (Ok s) P holds = as_case c vs marks active base first (λ a f. P a f s) marked of from holds
-  case_rests (Err e) P holds = tt
+  case_settles (Ok s) P holds = as_case c vs marks active base first (λ a f. P a f s) marked of from holds
+  case_settles (Err e) P holds = tt
 
   pub case_ends : {A : Type 0} (result : Result A EngineEnd) (P : (ℕ → Bool) → Waves → EngineEnd → Type 0) → IfErr result (P active first) →
       IfErr result (λ e. (cone : ℕ → Bool) → IsCone c vs cone → P (case_active c cone) (case_start c vs cone base) e)

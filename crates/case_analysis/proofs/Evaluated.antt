@@ -1,4 +1,4 @@
--- In a case at rest each net has what its driver makes of the waves at rest, in the cone of the case and outside of it.
+-- In a settled case each net has what its driver makes of the settled waves, in the cone of the case and outside of it.
 use Rattle.std.proofs.Common.{◌≡◌, ℕ, zero, suc, ◌+◌, ◌==◌, ◌&&◌, ◌||◌, Bool, true, false, not, cond, List, [], ◌∷◌, refl, sym, ap, subst, ◌∙◌, eq-eqb, Option, Some, None, is_some}
 use Rattle.std.proofs.lemmas.Bool.{or_left, or_right}
 use Rattle.vector_names.specs.declared.bits.Target.{Target}
@@ -106,25 +106,25 @@ module _ (c : Circuit) (values : List CaseValue) (cone : ℕ → Bool) (is_cone 
 
   outside_evaluated : (i : ℕ) → cone i ≡ false → before i ≡ evaluated c before i →
       case_round c values cone before r i ≡ evaluated c (case_round c values cone before r) i
-  outside_evaluated i out rests = outside i out ∙ rests ∙ by (driver c i) refl
+  outside_evaluated i out settles = outside i out ∙ settles ∙ by (driver c i) refl
     where
       by : (found : Option Instance) → driver c i ≡ found →
           wave_from c before found (before i) ≡ wave_from c (case_round c values cone before r) found (case_round c values cone before r i)
       by None at = sym (outside i out)
       by (Some j) at = sym (instance_same c (case_round c values cone before r) before j (unheard i j out at))
 
--- ---- cases at rest
+-- ---- settled cases
 
-pub rest_is_evaluated : (c : Circuit) (limit base r : ℕ) (before : Waves) (values : List CaseValue) (cone : ℕ → Bool) (ws : Waves) →
+pub settled_is_evaluated : (c : Circuit) (limit base r : ℕ) (before : Waves) (values : List CaseValue) (cone : ℕ → Bool) (ws : Waves) →
     IsBase c limit base before → IsCone c values cone → IsCase c values cone (base_round c base) limit r ws → (i : ℕ) → ws i ≡ evaluated c ws i
-rest_is_evaluated c limit base r before values cone ws is_base is_cone is_case i =
+settled_is_evaluated c limit base r before values cone ws is_base is_cone is_case i =
     subst (λ (vs : Waves). vs i ≡ evaluated c vs i) (λ k m. sym (is_case.waves m) k) (by (cone i) refl)
   where
     by : (inside : Bool) → cone i ≡ inside →
         case_round c values cone (base_round c base) r i ≡ evaluated c (case_round c values cone (base_round c base) r) i
     by true inside =
-        still_evaluated c (case_active c cone) (case_start c values cone (base_round c base)) r i is_case.rests.still
+        still_evaluated c (case_active c cone) (case_start c values cone (base_round c base)) r i is_case.settles.still
         (λ driven. λ k. inside k && driven k)
     by false out =
         outside_evaluated c values cone is_cone (base_round c base) r i out
-        (still_evaluated c (is_driven c) (base_start c) base i is_base.rests.still (λ driven. driven))
+        (still_evaluated c (is_driven c) (base_start c) base i is_base.settles.still (λ driven. driven))

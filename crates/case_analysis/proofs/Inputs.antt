@@ -33,7 +33,7 @@ inputs_permitted c first settled r some start keeps run isrun meets =
     subst (PermitRun c run settled) later
     (keeps run 1 isrun (omega arith) (subst (λ (ws : Waves). PermitRun c run ws 1) (sym start) (start_permits c run some meets)))
 
--- the waves of the base at rest permit what its inputs do
+-- the waves of the settled base permit what its inputs do
 pub base_permits : (c : Circuit) (limit r : ℕ) (ws : Waves) → 0 < period c.header → IsCircuit c → IsBase c limit r ws → PermitInputs c r ws
 base_permits c limit r ws some known base =
     inputs_permitted c (base_start c) ws r some refl
@@ -41,9 +41,9 @@ base_permits c limit r ws some known base =
     subst (λ (w : Wave Value). Permits values w run.ticks (net_signal run i) (v + r * reach c)) (sym (base.waves i))
     (round_sound c (is_driven c) (base_start c) r some known (start_long c) run v isrun v1 permits i below))
 
--- the base rests at its round, whatever more it might have had
+-- the base settles at its round, whatever more it might have had
 pub settled_base : (c : Circuit) (limit r : ℕ) (ws : Waves) → IsBase c limit r ws → IsBase c r r ws
 settled_base c limit r ws base = record {
-  rests = record { still = base.rests.still; first = base.rests.first; within = omega arith };
+  settles = record { still = base.settles.still; first = base.settles.first; within = omega arith };
   waves = base.waves;
 }

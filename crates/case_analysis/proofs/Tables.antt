@@ -20,7 +20,7 @@ use Rattle.flat_circuit.specs.Circuit.{Circuit, driver_in, driver, instance_in}
 use Rattle.flat_circuit.specs.Run.{Run, net_signal}
 use Rattle.pin_waves.proofs.Tests.{bits, ticks, same_bit, same_bit_is, same_bit_from, implies, implies_is, not_true, all_below, each_passes, all_pass}
 use Rattle.fixpoint_engine.specs.Work.{is_on_any, hears_from, hears_in}
-use Rattle.fixpoint_engine.proofs.Rest.{heard_in}
+use Rattle.fixpoint_engine.proofs.Settling.{heard_in}
 use Rattle.case_analysis.specs.Case.{is_set, IsInCase, InCone, Is_set, Hears_one, IsCone}
 
 -- ---- runs in cases

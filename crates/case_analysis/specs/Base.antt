@@ -7,7 +7,7 @@ use Rattle.fixpoint_engine.specs.Waves.{Waves}
 use Rattle.fixpoint_engine.specs.Interface.{MeetsInterface, PermitRun}
 use Rattle.fixpoint_engine.specs.Rounds.{round}
 use Rattle.fixpoint_engine.specs.Start.{base_start, is_driven}
-use Rattle.fixpoint_engine.specs.Settled.{AreAtRest}
+use Rattle.fixpoint_engine.specs.Settled.{AreSettled}
 use Rattle.fixpoint_engine.specs.Reach.{reach}
 
 -- the waves of the base in each round
@@ -16,7 +16,7 @@ base_round c = round c (is_driven c) (base_start c)
 
 -- The waves are those of the base, which settles at this round, and within the limit.
 abbrev pub IsBase : Circuit → ℕ → ℕ → Waves → Type 0
-IsBase c limit r ws = AreAtRest c (is_driven c) (base_start c) limit r ws
+IsBase c limit r ws = AreSettled c (is_driven c) (base_start c) limit r ws
 
 -- Waves after so many rounds permit every run whose inputs keep their assertions, from so many
 -- reaches on.

@@ -16,7 +16,7 @@ use Rattle.fixpoint_engine.specs.declared.rounds.EngineEnd.{EngineEnd}
 use Rattle.fixpoint_engine.specs.declared.rounds.EngineEnd.TheVariants.{Unsettled, NoMemory}
 use Rattle.fixpoint_engine.specs.Rounds.{round}
 use Rattle.fixpoint_engine.specs.Start.{unknown_wave, is_driven}
-use Rattle.fixpoint_engine.specs.Settled.{AreAtRest}
+use Rattle.fixpoint_engine.specs.Settled.{AreSettled}
 use Rattle.fixpoint_engine.specs.Reach.{reach}
 use Rattle.fixpoint_engine.specs.Loops.{Hears}
 
@@ -82,7 +82,7 @@ case_round c values cone base = round c (case_active c cone) (case_start c value
 -- The waves are those of the case, whose rounds settle at this one, and within the limit.
 abbrev pub IsCase : Circuit → List CaseValue → (ℕ → Bool) → Waves → ℕ → ℕ → Waves → Type 0
 IsCase c values cone base limit r ws =
-    AreAtRest c (case_active c cone) (case_start c values cone base) limit r ws
+    AreSettled c (case_active c cone) (case_start c values cone base) limit r ws
 
 -- Waves after so many rounds of the base and of the case together permit every run of the case
 -- whose inputs keep their assertions, from so many reaches on.

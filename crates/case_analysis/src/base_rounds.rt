@@ -143,7 +143,7 @@ pub fn base<W: CyclicWave<Item = Value>>(
     requires { AreClasses c.now cases.now classes.now }
     ensures grows { Grows store.old store.new }
     ensures known { IfOk result (λ s. AreKnown store.new s.numbers) }
-    ensures rest { IfOk result (λ s.
+    ensures settled { IfOk result (λ s.
         IsBase c.now limit s.rounds (waves_of (waves_at store.new s.numbers))) }
     ensures within { IfOk result (λ s. s.rounds ≤ limit) }
     ensures fit { IfOk result (λ s. FitWaves c.now (waves_at store.new s.numbers)) }

@@ -129,7 +129,7 @@ pub fn case_waves<W: CyclicWave<Item = Value>>(
     requires fit { FitWaves c.now (waves_at store.old base.now.numbers) }
     ensures grows { Grows store.old store.new }
     ensures known { IfOk result (λ s. AreKnown store.new s.numbers) }
-    ensures rest { let case = case_at cases.now number in
+    ensures settled { let case = case_at cases.now number in
         let before = waves_of (waves_at store.old base.now.numbers) in
         IfOk result (λ s. (cone : ℕ → Bool) → IsCone c.now case cone →
         IsCase c.now case cone before limit s.rounds (waves_of (waves_at store.new s.numbers))) }

@@ -4,7 +4,7 @@ use Rattle.scald_base.specs.declared.outcome.Outcome.{Outcome}
 use Rattle.scald_base.specs.Outcome.{end_of}
 use Rattle.program_call.specs.Program.{IsLawful}
 use Rattle.program_call.specs.Answer as answer
-use Rattle.program_call.specs.Answer.{rested, verdict_of}
+use Rattle.program_call.specs.Answer.{settled, verdict_of}
 use Rattle.program_call.specs.Promise.{SettlesLoopless, Writes, may_count}
 use Rattle.program_call.proofs.Judgement.{IsOne}
 use Rattle.program_call.proofs.Outcomes.{HoldsOfReports, evaluated_has, evaluated_settles}
@@ -47,9 +47,9 @@ is_given text o bytes =
 pub is_written : (text : List ℕ) (o : Outcome) (taken taken' : Option (List ℕ)) →
     ((reply : Outcome) (bytes : List ℕ) → Noted text reply bytes →
     Writes reply bytes o taken taken') → WritesNotes text o taken taken'
-is_written text o taken taken' writes c values base cases drawn ways are rests at_rest =
+is_written text o taken taken' writes c values base cases drawn ways are settles are_settled =
     writes _ _ (answer.judged c values _ _ drawn
-    (rested base cases _ _ rests at_rest
+    (settled base cases _ _ settles are_settled
     (record { ways = ways; are = are; outcome = refl; text = refl })))
 
 pub is_settled : (text : List ℕ) (o : Outcome) (bytes : List ℕ) → Noted text o bytes → SettlesLoopless text o

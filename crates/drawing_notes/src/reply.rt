@@ -9,7 +9,7 @@ use program_call::{Reply, Reporter};
 use scald_base::{NoMemory, Outcome};
 use std::alloc::Global;
 use step_values::Value;
-use timing_analysis::CaseAtRest;
+use timing_analysis::SettledCase;
 use wave_core::CyclicWave;
 
 /// What the notes keep of a drawing: its version, and the names that it spreads.
@@ -41,7 +41,8 @@ impl Reporter for Noting {
 
     ghost reports = { λ asked kept. AreNotes kept.version kept.spreads };
 
-    ghost holds = { λ noting asked kept c base cases. (noting.kept ≡ kept) × HoldsOf noting.so_far c cases };
+    ghost holds = { λ noting asked kept c base cases. (noting.kept ≡ kept)
+        × HoldsOf noting.so_far c cases };
 
     ghost ready = { λ noting c places. (cases : List Case) × HoldsOf noting.so_far c cases };
 
@@ -69,7 +70,7 @@ impl Reporter for Noting {
         alloc: Global,
         circuit: &Circuit,
         _place: u32,
-        case: &CaseAtRest,
+        case: &SettledCase,
         waves: &Waves<W>,
     ) -> Result<(), NoMemory> {
         self.so_far.add_case(alloc, circuit, case.number, waves)

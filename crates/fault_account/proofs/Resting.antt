@@ -34,7 +34,7 @@ use Rattle.margin_report.specs.declared.margin.Parameter.{Parameter}
 use Rattle.margin_report.specs.declared.margin.Parameter.TheVariants.{Setup, Hold, High, Low}
 use Rattle.margin_report.specs.Margin.{AreWithin as LimitsAreWithin, fault_with, written}
 use Rattle.margin_report.proofs.RowByRow.{asked_within}
-use Rattle.fault_chain.proofs.Long.{rest_is_long}
+use Rattle.fault_chain.proofs.Long.{settled_is_long}
 use Rattle.fault_chain.proofs.Moving.{each_if}
 use Rattle.fault_account.specs.declared.account.Asked.{Asked}
 use Rattle.fault_account.specs.Account.{IsWithin}
@@ -201,10 +201,10 @@ module _ (c : Circuit) (ws : Waves) (known : IsCircuit c) (some : 0 < period c.h
         (all_flat (IsWithin c) (instance_faults c ws) (range_with_len 0 (length c.instances)) widths_within)
 
 pub faults_are_within : FaultsAreWithin
-faults_are_within c limit base case known header at_rest =
+faults_are_within c limit base case known header are_settled =
     let least = header.shortest in
     let some : 0 < period c.header = omega (arith, least) in
     let long : AreLong c case.waves =
-    rest_is_long c limit base case.rounds case.listed.values at_rest.cone case.waves some known at_rest.is in
+    settled_is_long c limit base case.rounds case.listed.values are_settled.cone case.waves some known are_settled.is in
     All-weaker (IsWithin c) (AreWithin c case.waves) (both_within c case.waves known some) (faults c case)
     (all_within c case.waves known some long)

@@ -10,7 +10,7 @@ use Rattle.flat_circuit.specs.declared.fault.PointKind.{PointKind}
 use Rattle.point_check.specs.Window.{Folds}
 use Rattle.flat_circuit.specs.Circuit.{Circuit, IsCircuit, driver, wire_at}
 use Rattle.fixpoint_engine.specs.Waves.{Waves}
-use Rattle.timing_analysis.specs.Case.{Case, IsAtRest, faults}
+use Rattle.timing_analysis.specs.Case.{Case, IsSettled, faults}
 use Rattle.margin_report.specs.Margin.{fault_with}
 use Rattle.fault_account.specs.declared.account.Asked.{Asked}
 use Rattle.fault_account.specs.Asked.{asked_by, asked_of, told_fault}
@@ -124,5 +124,5 @@ pub record AreWithin (c : Circuit) (ws : Waves) (f : Fault) : Type 0 where
 
 abbrev pub FaultsAreWithin : Type 0
 FaultsAreWithin =
-    (c : Circuit) (limit base : ℕ) (case : Case) → IsCircuit c → IsHeader c.header → IsAtRest c limit base case →
+    (c : Circuit) (limit base : ℕ) (case : Case) → IsCircuit c → IsHeader c.header → IsSettled c limit base case →
     All (AreWithin c case.waves) (faults c case)

@@ -115,7 +115,7 @@ going_more c seen link rest moves going = record {
 }
 
 module _ (c : Circuit) (ws : Waves) (known : IsCircuit c) (some : 0 < period c.header) (delays : HasDelays c) (long : AreLong c ws)
-    (rests : (i : ℕ) → ws i ≡ evaluated c ws i) where
+    (settles : (i : ℕ) → ws i ≡ evaluated c ws i) where
   -- Where no pin of the driver changes, it is storage with set and reset.
   forced : (link : Link) (j : Instance) → IsLink c ws link → driver c link.net ≡ Some j → next_link c ws j link.slot ≡ None → IsForced c link
   forced link j is at none =
@@ -124,7 +124,7 @@ module _ (c : Circuit) (ws : Waves) (known : IsCircuit c) (some : 0 < period c.h
       (driver_passes (λ (one : Instance). AreTwoDelays one.split) c link.net j delays.splits at) none) [
         | inl both ↦ record { storage = j; drives = at; kind = both }
         | inr quiet ↦
-            let wave : ws link.net ≡ evaluated c ws link.net = rests link.net in
+            let wave : ws link.net ≡ evaluated c ws link.net = settles link.net in
             let value : is_quiet link.value ≡ true =
             ap is_quiet (is.value ∙ (λ k. fold values (wave k) link.slot) ∙ (λ k. fold values (wave_from c ws (at k) (ws link.net)) link.slot)) ∙ quiet in
             let clash : false ≡ true = sym is.moves ∙ value in

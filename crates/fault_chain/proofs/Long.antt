@@ -1,4 +1,4 @@
--- The waves of a case at rest have the period.
+-- The waves of a settled case have the period.
 use Rattle.std.proofs.Common.{◌≡◌, ℕ, ◌<◌, Bool, true, false, List, length, ap, ◌∙◌, if◌then◌else◌, Option, Some, None}
 use Rattle.scald_base.specs.Time.{period}
 use Rattle.wave_core.proofs.Slots.{length_slots}
@@ -16,9 +16,9 @@ use Rattle.case_analysis.specs.Base.{base_round}
 use Rattle.case_analysis.specs.Case.{IsCase, case_active, case_start, case_wave}
 use Rattle.case_analysis.proofs.Start.{length_unknown, start_long}
 
-pub rest_is_long : (c : Circuit) (limit base r : ℕ) (values : List CaseValue) (cone : ℕ → Bool) (ws : Waves) → 0 < period c.header → IsCircuit c →
+pub settled_is_long : (c : Circuit) (limit base r : ℕ) (values : List CaseValue) (cone : ℕ → Bool) (ws : Waves) → 0 < period c.header → IsCircuit c →
     IsCase c values cone (base_round c base) limit r ws → AreLong c ws
-rest_is_long c limit base r values cone ws some known is_case i below =
+settled_is_long c limit base r values cone ws some known is_case i below =
     ap (λ (w : Wave Value). length w.cells) (is_case.waves i)
     ∙ round_long c (case_active c cone) (case_start c values cone (base_round c base)) r some known (λ j exists.
     started (value_in values j) (cone j) (base_round c base j) (round_long c (is_driven c) (base_start c) base some known (start_long c) j exists)) i below

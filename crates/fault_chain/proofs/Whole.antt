@@ -1,4 +1,4 @@
--- The chain of every fault of a case at rest is whole.
+-- The chain of every fault of a settled case is whole.
 use Rattle.std.proofs.Common.{inl, inr, ◌≡◌, ℕ, ◌<◌, Bool, true, false, not, ◌&&◌, cond, eq-eqb, eqb, All, List, [], ◌∷◌, ◌++◌, length, refl, sym, ap, subst, ◌∙◌, arith, Option, Some, None, slice_get}
 use Rattle.std.specs.Prelude.{◌==◌, IfSome, filter_map}
 use Rattle.std.specs.List.{cons_option, flat_map, range_with_len}
@@ -36,7 +36,7 @@ use Rattle.fixpoint_engine.specs.Pins.{read}
 use Rattle.fixpoint_engine.proofs.Fits.{AreLong}
 use Rattle.fixpoint_engine.proofs.OnePeriod.{length_pins}
 use Rattle.fixpoint_engine.specs.Rounds.{evaluated}
-use Rattle.case_analysis.proofs.Evaluated.{rest_is_evaluated}
+use Rattle.case_analysis.proofs.Evaluated.{settled_is_evaluated}
 use Rattle.point_check.specs.declared.window.Window.{Window}
 use Rattle.point_check.specs.Window.{Folds, fault_at, first_mover, mover_at, places, slot_at, window_fault}
 use Rattle.point_check.specs.Point.{checker_fault, edge_fault, window_of}
@@ -51,7 +51,7 @@ use Rattle.fault_chain.specs.Chain.{at_net, chain_at, chain_from, chain_of, endi
 use Rattle.fault_chain.specs.Laws.{ChainsAreWhole, EndsIn, HasDelays, IsWhole, MayChange}
 use Rattle.fault_chain.proofs.Going.{AreMet, GoesTo, IsGoing, goes_on}
 use Rattle.fault_chain.proofs.Moving.{IsLink, each_if, few_links}
-use Rattle.fault_chain.proofs.Long.{rest_is_long}
+use Rattle.fault_chain.proofs.Long.{settled_is_long}
 use Rattle.fault_chain.proofs.Pins.{cell_quiet}
 use Rattle.fault_chain.proofs.Started.{Starts, starts_at_pin, two_pins}
 
@@ -141,7 +141,7 @@ begun slot width = (slot, width)
 -- ---- one chain
 
 module _ (c : Circuit) (ws : Waves) (known : IsCircuit c) (some : 0 < period c.header) (delays : HasDelays c) (long : AreLong c ws)
-    (rests : (i : ℕ) → ws i ≡ evaluated c ws i) where
+    (settles : (i : ℕ) → ws i ≡ evaluated c ws i) where
   none_met : AreMet (length c.nets) [] (length c.nets)
   none_met = record {
     once = IsDistinct-from_AllPairs {eq = eqb} (λ a b. (eqb-true a b, eq-eqb a b)) [] (λ i j d less below. absurd (omega (arith, below)));
@@ -158,7 +158,7 @@ module _ (c : Circuit) (ws : Waves) (known : IsCircuit c) (some : 0 < period c.h
 
   moving_whole : (f : Fault) (link : Link) → IsLink c ws link → IsWhole c f (chain_from c ws (length c.nets) [] link)
   moving_whole f link is =
-      let going : IsGoing c [] (chain_from c ws (length c.nets) [] link) = goes_on c ws known some delays long rests (length c.nets) [] link none_met is in
+      let going : IsGoing c [] (chain_from c ws (length c.nets) [] link) = goes_on c ws known some delays long settles (length c.nets) [] link none_met is in
       record {
         before = going.before;
         last = going.last;
@@ -309,9 +309,9 @@ module _ (c : Circuit) (ws : Waves) (known : IsCircuit c) (some : 0 < period c.h
       (all_flat Whole (instance_faults c ws) (range_with_len 0 (length c.instances)) widths_whole)
 
 pub chains_are_whole : ChainsAreWhole
-chains_are_whole c limit base before case known header delays is_base at_rest =
+chains_are_whole c limit base before case known header delays is_base are_settled =
     let least = header.shortest in
     let some : 0 < period c.header = omega (arith, least) in
     all_whole c case.waves known some delays
-    (rest_is_long c limit base case.rounds case.listed.values at_rest.cone case.waves some known at_rest.is)
-    (rest_is_evaluated c limit base case.rounds before case.listed.values at_rest.cone case.waves is_base at_rest.is_cone at_rest.is)
+    (settled_is_long c limit base case.rounds case.listed.values are_settled.cone case.waves some known are_settled.is)
+    (settled_is_evaluated c limit base case.rounds before case.listed.values are_settled.cone case.waves is_base are_settled.is_cone are_settled.is)

@@ -1,4 +1,4 @@
--- Laws of chains: what holds of the chain of every fault of a case at rest.
+-- Laws of chains: what holds of the chain of every fault of a settled case.
 use Rattle.std.specs.Prelude.{◌≡◌, ◌⊎◌, ℕ, ◌+◌, ◌≤◌, ◌==◌, Bool, true, false, ⊤, List, [], ◌∷◌, ◌++◌, length, Option, Some, None}
 use Rattle.std.specs.List.{All, list_any}
 use Rattle.scald_base.specs.Time.{IsDelay, IsHeader}
@@ -13,10 +13,10 @@ use Rattle.flat_circuit.specs.declared.fault.Fault.{Fault}
 use Rattle.flat_circuit.specs.declared.fault.Fault.TheVariants.{Point, Width, Hazard, Assertion}
 use Rattle.flat_circuit.specs.Circuit.{Circuit, IsCircuit, driver}
 use Rattle.fixpoint_engine.specs.Waves.{Waves}
-use Rattle.fixpoint_engine.specs.Rounds.{RestsAt}
+use Rattle.fixpoint_engine.specs.Rounds.{SettlesAt}
 use Rattle.case_analysis.specs.Base.{IsBase, base_round}
 use Rattle.timing_analysis.specs.Drawn.{DrawsCircuit}
-use Rattle.timing_analysis.specs.Case.{Case, IsAtRest, AreAtRest, faults, listed_cases}
+use Rattle.timing_analysis.specs.Case.{Case, IsSettled, AreSettled, faults, listed_cases}
 use Rattle.fault_chain.specs.declared.chain.Link.{Link}
 use Rattle.fault_chain.specs.declared.chain.End.{End}
 use Rattle.fault_chain.specs.declared.chain.End.TheVariants.{Level, Repeat, Undriven, Both}
@@ -44,8 +44,9 @@ is_of_assertion (Assertion i slot value) = true
 abbrev pub MayChange : Link → Type 0
 MayChange link = is_quiet link.value ≡ false
 
--- By its end: one quiet link of an assertion fault; or links that may change, the last of which is on a
--- net of an earlier link, on a net that nothing drives, or on one that storage with set and reset drives.
+-- By its end: one quiet link of an assertion fault; or links that may change, the last of which is
+-- on a net of an earlier link, on a net that nothing drives, or on one that storage with set and
+-- reset drives.
 abbrev pub EndsIn : Circuit → Fault → List Link → Link → End → Type 0
 EndsIn c f before last Level =
     (before ≡ []) × (is_quiet last.value ≡ true) × (is_of_assertion f ≡ true)
@@ -54,8 +55,8 @@ EndsIn c f before last Repeat =
 EndsIn c f before last Undriven = MayChange last × (driver c last.net ≡ None)
 EndsIn c f before last Both = MayChange last × IsForced c last
 
--- The chain has a last link, the links before it may change, and there is at most one more link than
--- there are nets.
+-- The chain has a last link, the links before it may change, and there is at most one more link
+-- than there are nets.
 pub record IsWhole (c : Circuit) (f : Fault) (chain : Chain) : Type 0 where
   pub before : List Link
   pub last : Link
@@ -82,13 +83,15 @@ AreWhole c case = All (λ f. IsWhole c f (chain_of c case.waves f)) (faults c ca
 
 abbrev pub ChainsAreWhole : Type 0
 ChainsAreWhole =
-    (c : Circuit) (limit base : ℕ) (before : Waves) (case : Case) → IsCircuit c → IsHeader c.header →
-    HasDelays c → IsBase c limit base before → IsAtRest c limit base case → AreWhole c case
+    (c : Circuit) (limit base : ℕ) (before : Waves) (case : Case) → IsCircuit c →
+    IsHeader c.header →
+    HasDelays c → IsBase c limit base before → IsSettled c limit base case → AreWhole c case
 
--- A circuit that a text draws is such a circuit: where its base and its cases have settled, all of their
--- chains are whole.
+-- A circuit that a text draws is such a circuit: where its base and its cases have settled, all of
+-- their chains are whole.
 abbrev pub DrawnChainsAreWhole : Type 0
 DrawnChainsAreWhole =
-    (text : List ℕ) (c : Circuit) (values : List (List CaseValue)) (limit base : ℕ) (cases : List Case) →
-    DrawsCircuit text c values → RestsAt (base_round c) limit base →
-    AreAtRest c limit base (listed_cases values) cases → All (AreWhole c) cases
+    (text : List ℕ) (c : Circuit) (values : List (List CaseValue)) (limit base : ℕ)
+    (cases : List Case) →
+    DrawsCircuit text c values → SettlesAt (base_round c) limit base →
+    AreSettled c limit base (listed_cases values) cases → All (AreWhole c) cases

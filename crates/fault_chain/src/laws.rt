@@ -8,9 +8,9 @@ ghost use Rattle.fault_chain.specs.Laws.{AreTwoDelays, ChainsAreWhole, HasDelays
 
 use flat_circuit::Circuit;
 
-/// The chain of every fault of a case at rest has a first link, goes on as long as a pin changes, and ends:
-/// at a level, at a net of an earlier link, at a net that nothing drives, or at storage whose set and reset
-/// may both be 1. It has at most one link more than there are nets.
+/// The chain of every fault of a settled case has a first link, goes on as long as a pin changes,
+/// and ends: at a level, at a net of an earlier link, at a net that nothing drives, or at storage
+/// whose set and reset may both be 1. It has at most one link more than there are nets.
 pub fn chains_are_whole()
     ensures { ChainsAreWhole }
 {}

@@ -15,7 +15,7 @@ use program_call::{Reply, Reporter, verdict};
 use scald_base::{Bytes, NoMemory, Outcome};
 use std::alloc::Global;
 use step_values::Value;
-use timing_analysis::CaseAtRest;
+use timing_analysis::SettledCase;
 use wave_core::CyclicWave;
 
 /// The lines of the cases so far, and how many faults they have.
@@ -89,7 +89,7 @@ impl Reporter for Chains {
         alloc: Global,
         circuit: &Circuit,
         _place: u32,
-        case: &CaseAtRest,
+        case: &SettledCase,
         waves: &Waves<W>,
     ) -> Result<(), NoMemory> {
         add_number(&mut self.bytes, case.number)?;

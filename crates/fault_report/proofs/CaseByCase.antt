@@ -10,41 +10,41 @@ use Rattle.skew_algebra.specs.Wave.{Wave}
 use Rattle.flat_circuit.specs.declared.case.CaseValue.{CaseValue}
 use Rattle.flat_circuit.specs.declared.fault.Fault.{Fault}
 use Rattle.flat_circuit.specs.Circuit.{Circuit}
-use Rattle.fixpoint_engine.specs.Rounds.{RestsAt}
+use Rattle.fixpoint_engine.specs.Rounds.{SettlesAt}
 use Rattle.fixpoint_engine.specs.declared.rounds.EngineEnd.{EngineEnd}
 use Rattle.fixpoint_engine.specs.declared.rounds.EngineEnd.TheVariants.{Unsettled, NoMemory}
 use Rattle.case_analysis.specs.Base.{base_round}
 use Rattle.case_analysis.specs.Case.{case_at}
 use Rattle.timing_analysis.specs.Case.{Listed, Case, listed_cases, numbered}
 use Rattle.timing_analysis.specs.Ended.{EndsCase, EndsCases}
-use Rattle.timing_analysis.specs.Rested.{IsCaseAtRest, settled_case}
-use Rattle.timing_analysis.proofs.Cases.{none_at_rest, one_more_at_rest, numbered_here, around_here, first_that_never_rests}
-use Rattle.program_call.specs.Answer.{Concluded, rested}
+use Rattle.timing_analysis.specs.Settled.{IsSettledCase, settled_case}
+use Rattle.timing_analysis.proofs.Cases.{none_settled, one_more_settled, numbered_here, around_here, first_that_never_settles}
+use Rattle.program_call.specs.Answer.{Concluded, settled}
 use Rattle.fault_report.specs.ByCase.{Telling, Tells, TellingOf, HasTold, IsTold}
 
 -- What is told, and what holds of a teller, are those of one version of the language.
 module _ {Self : Type 0} (told : TellingOf Self) (c : Circuit) (limit base : ℕ) where
   pub told_start : (teller : Self) → told teller c [] → HasTold told teller c limit base []
-  told_start teller is = record { cases = []; at_rest = none_at_rest c limit base; is = is }
+  told_start teller is = record { cases = []; are_settled = none_settled c limit base; is = is }
 
-  -- a case at rest is told when the teller has it behind the others
+  -- a settled case is told when the teller has it behind the others
   pub told_more : (listed : List Listed) (l : Listed) (teller after : Self) (number rounds tick : ℕ) (ws : List (Wave Value)) (fs : List Fault) →
-      HasTold told teller c limit base listed → IsCaseAtRest c limit base l number rounds tick ws fs →
+      HasTold told teller c limit base listed → IsSettledCase c limit base l number rounds tick ws fs →
       ((m : Listed) (cases : List Case) → number ≡ m.number → told teller c cases → told after c (cases ++ settled_case m rounds ws ∷ [])) →
       HasTold told after c limit base (listed ++ l ∷ [])
   told_more listed l teller after number rounds tick ws fs has is more =
       let case : Case = settled_case l rounds ws in
       record {
         cases = has.cases ++ case ∷ [];
-        at_rest = one_more_at_rest c limit base listed l has.cases case has.at_rest refl is.rest;
+        are_settled = one_more_settled c limit base listed l has.cases case has.are_settled refl is.settled;
         is = more l has.cases is.numbered has.is;
       }
 
--- a case at rest, whose waves are read from the table that has them
+-- a settled case, whose waves are read from the table that has them
 pub read_case : (c : Circuit) (limit base : ℕ) (listed : Listed) (number rounds tick : ℕ) (ws read : List (Wave Value)) (fs : List Fault) → read ≡ ws →
-    IsCaseAtRest c limit base listed number rounds tick ws fs → IsCaseAtRest c limit base listed number rounds tick read fs
+    IsSettledCase c limit base listed number rounds tick ws fs → IsSettledCase c limit base listed number rounds tick read fs
 read_case c limit base listed number rounds tick ws read fs same is =
-    subst (λ (xs : List (Wave Value)). IsCaseAtRest c limit base listed number rounds tick xs fs) (sym same) is
+    subst (λ (xs : List (Wave Value)). IsSettledCase c limit base listed number rounds tick xs fs) (sym same) is
 
 -- one case more is told, whichever the cases before are, where its waves are read from the table that has them
 module _ {Self : Type 0} (told : ℕ → TellingOf Self) (c : Circuit) (teller after : Self) (number rounds tick : ℕ)
@@ -52,7 +52,7 @@ module _ {Self : Type 0} (told : ℕ → TellingOf Self) (c : Circuit) (teller a
   pub told_read : ((version : ℕ) (l : Listed) (cases : List Case) → number ≡ l.number → told version teller c cases →
       told version after c (cases ++ settled_case l rounds read ∷ [])) →
       (version limit base : ℕ) (before : List Listed) (l : Listed) → HasTold (told version) teller c limit base before →
-      IsCaseAtRest c limit base l number rounds tick ws fs → HasTold (told version) after c limit base (before ++ l ∷ [])
+      IsSettledCase c limit base l number rounds tick ws fs → HasTold (told version) after c limit base (before ++ l ∷ [])
   told_read more version limit base before l has is =
       told_more (told version) c limit base before l teller after number rounds tick read fs has
       (read_case c limit base l number rounds tick ws read fs same is) (more version)
@@ -74,7 +74,7 @@ module _ {Self : Type 0} (told : ℕ → TellingOf Self) (tell : ℕ → Telling
       IsTold (tell version) c limit base listed o bytes
   told_done o bytes outcome text = record {
     cases = has.cases;
-    at_rest = has.at_rest;
+    are_settled = has.are_settled;
     outcome = outcome version base has.cases has.is;
     text = text version base has.cases has.is;
   }
@@ -125,7 +125,7 @@ module _ {Self : Type 0} (told : TellingOf Self) (ready : Self → Circuit → �
   }
 
   pub going_more : (after : Self) (number rounds tick : ℕ) (ws : List (Wave Value)) (fs : List Fault) →
-      IsCaseAtRest c limit base here number rounds tick ws fs →
+      IsSettledCase c limit base here number rounds tick ws fs →
       ((m : Listed) (before : List Case) → number ≡ m.number → told teller c before → told after c (before ++ settled_case m rounds ws ∷ [])) →
       ready after c (k + 1) → Going told ready c limit base cases (k + 1) after
   going_more after number rounds tick ws fs is more =
@@ -135,8 +135,8 @@ module _ {Self : Type 0} (told : TellingOf Self) (ready : Self → Circuit → �
   pub going_ends : (end : EngineEnd) → EndsCase c limit base here end → EndsCases c limit base (numbered 1 cases) end
   going_ends NoMemory ends = tt
   going_ends (Unsettled place round) ends = (
-    first_that_never_rests c limit base (numbered 1 (take k cases)) (numbered 1 cases) (numbered (k + 1 + 1) (drop (k + 1) cases))
-        here going.told_so_far.cases place going.told_so_far.at_rest
+    first_that_never_settles c limit base (numbered 1 (take k cases)) (numbered 1 cases) (numbered (k + 1 + 1) (drop (k + 1) cases))
+        here going.told_so_far.cases place going.told_so_far.are_settled
         (sym (numbered_here cases k inside (drop (k + 1) cases)) ∙ ap (numbered 1) (around_here cases k inside)) ends.0,
     ends.1,
   )
@@ -150,6 +150,6 @@ some_are_listed (values ∷ cases) some = refl
 -- ---- what is answered
 
 pub concluded_told : (tell : Telling) (c : Circuit) (values : List (List CaseValue)) (limit base : ℕ) (o : Outcome) (bytes : List ℕ) →
-    RestsAt (base_round c) limit base → IsTold tell c limit base (listed_cases values) o bytes → Concluded (Tells tell) c values limit o bytes
-concluded_told tell c values limit base o bytes rests told =
-    rested base told.cases o bytes rests told.at_rest (told.outcome, told.text)
+    SettlesAt (base_round c) limit base → IsTold tell c limit base (listed_cases values) o bytes → Concluded (Tells tell) c values limit o bytes
+concluded_told tell c values limit base o bytes settles told =
+    settled base told.cases o bytes settles told.are_settled (told.outcome, told.text)

@@ -3,7 +3,7 @@ use Rattle.std.proofs.Common.{◌≡◌, ◌∙◌, ℕ, true, List, refl, sym, 
 use Rattle.scald_base.specs.declared.outcome.Outcome.{Outcome}
 use Rattle.timing_analysis.specs.Case.{fault_count}
 use Rattle.program_call.specs.Answer as answer
-use Rattle.program_call.specs.Answer.{rested}
+use Rattle.program_call.specs.Answer.{settled}
 use Rattle.program_call.specs.Promise.{SettlesLoopless, Writes, may_count}
 use Rattle.program_call.proofs.Outcomes.{evaluated_has, evaluated_settles, verdict_counts, verdict_settles}
 use Rattle.fault_report.specs.Answer.{IsExplained}
@@ -17,8 +17,8 @@ is_given text o bytes =
 
 pub is_written : (text : List ℕ) (o : Outcome) (taken taken' : Option (List ℕ)) →
     ((told : Outcome) (bytes : List ℕ) → IsExplained text told bytes → Writes told bytes o taken taken') → WritesExplanations text o taken taken'
-is_written text o taken taken' writes c values base cases drawn rests at_rest =
-    writes _ _ (answer.judged c values _ _ drawn (rested base cases _ _ rests at_rest (refl, refl)))
+is_written text o taken taken' writes c values base cases drawn settles are_settled =
+    writes _ _ (answer.judged c values _ _ drawn (settled base cases _ _ settles are_settled (refl, refl)))
 
 pub is_settled : (text : List ℕ) (o : Outcome) (bytes : List ℕ) → IsExplained text o bytes → SettlesLoopless text o
 is_settled text o bytes =

@@ -17,7 +17,7 @@ use Rattle.listing.specs.Head.{period_line}
 use Rattle.fixpoint_engine.specs.Waves.{waves_of}
 use Rattle.program_call.specs.declared.reply.Reply.{Reply}
 use Rattle.timing_analysis.specs.Case.{Case, Listed, fault_count, faults, faults_of}
-use Rattle.timing_analysis.specs.Rested.{IsCaseAtRest, settled_case}
+use Rattle.timing_analysis.specs.Settled.{IsSettledCase, settled_case}
 use Rattle.fault_report.specs.ByCase.{HasTold, IsTold}
 use Rattle.fault_report.proofs.CaseByCase.{told_done}
 use Rattle.text_groups.specs.Group.{Group, gathered}
@@ -65,11 +65,11 @@ module _ (d : Drawing) (c : Circuit) (cases : List Case) (one : Case) (number : 
     count = count_more before.total after.total has.count count;
   }
 
--- the numbers of the faults of a case at rest are those of slots
+-- the numbers of the faults of a settled case are those of slots
 pub within_case : FaultsAreWithin → (c : Circuit) (limit base : ℕ) (listed : Listed) (number rounds tick : ℕ) (ws : List (Wave Value)) (fs : List Fault) →
-    IsCircuit c → IsHeader c.header → IsCaseAtRest c limit base listed number rounds tick ws fs → All (AreWithin c (waves_of ws)) fs
+    IsCircuit c → IsHeader c.header → IsSettledCase c limit base listed number rounds tick ws fs → All (AreWithin c (waves_of ws)) fs
 within_case law c limit base listed number rounds tick ws fs known header is =
-    subst (All (AreWithin c (waves_of ws))) (sym is.found) (law c limit base (settled_case listed rounds ws) known header is.rest)
+    subst (All (AreWithin c (waves_of ws))) (sym is.found) (law c limit base (settled_case listed rounds ws) known header is.settled)
 
 -- ---- what is replied
 

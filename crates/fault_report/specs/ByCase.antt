@@ -2,7 +2,7 @@
 use Rattle.std.specs.Prelude.{◌≡◌, ℕ, List}
 use Rattle.scald_base.specs.declared.outcome.Outcome.{Outcome}
 use Rattle.flat_circuit.specs.Circuit.{Circuit}
-use Rattle.timing_analysis.specs.Case.{Listed, Case, AreAtRest}
+use Rattle.timing_analysis.specs.Case.{Listed, Case, AreSettled}
 use Rattle.program_call.specs.Answer.{Reporting}
 
 -- an outcome and bytes, by the round in which a circuit's base settled and by its cases
@@ -21,13 +21,13 @@ TellingOf Self = Self → Circuit → List Case → Type 0
 pub record HasTold {Self : Type 0} (told : TellingOf Self) (kept : Self) (c : Circuit) (limit base : ℕ)
     (listed : List Listed) : Type 0 where
   pub cases : List Case
-  pub at_rest : AreAtRest c limit base listed cases
+  pub are_settled : AreSettled c limit base listed cases
   pub is : told kept c cases
 
 -- The outcome and the bytes are what is told of these cases, which have settled.
 pub record IsTold (tell : Telling) (c : Circuit) (limit base : ℕ) (listed : List Listed)
     (o : Outcome) (bytes : List ℕ) : Type 0 where
   pub cases : List Case
-  pub at_rest : AreAtRest c limit base listed cases
+  pub are_settled : AreSettled c limit base listed cases
   pub outcome : o ≡ (tell c base cases).0
   pub text : bytes ≡ (tell c base cases).1

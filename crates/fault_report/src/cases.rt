@@ -5,11 +5,11 @@ ghost use Rattle.std.specs.List.{All};
 ghost use Rattle.drawing_tree.specs.Tree.{drawing_of};
 ghost use Rattle.fixpoint_engine.specs.Table.{AreKnown, waves_at};
 ghost use Rattle.fixpoint_engine.specs.Waves.{FitWaves, waves_of};
-ghost use Rattle.fixpoint_engine.specs.Rounds.{RestsAt};
+ghost use Rattle.fixpoint_engine.specs.Rounds.{SettlesAt};
 ghost use Rattle.case_analysis.specs.Base.{base_round};
 ghost use Rattle.timing_analysis.specs.Case.{Listed, faults_of, listed_cases, numbered};
 ghost use Rattle.timing_analysis.specs.Ended.{EndsCases, EndsEarly};
-ghost use Rattle.timing_analysis.specs.Rested.{IsBaseIn, IsCaseIn};
+ghost use Rattle.timing_analysis.specs.Settled.{IsBaseIn, IsCaseIn};
 ghost use Rattle.timing_analysis.specs.Subject.{IsSubject};
 ghost use Rattle.fault_report.specs.ByCase.{HasTold, IsTold};
 ghost use Rattle.fault_account.specs.Laws.{AreWithin};
@@ -26,7 +26,7 @@ use run_wave::RunWave;
 use scald_base::{NoMemory, Outcome};
 use std::alloc::Global;
 use step_values::Value;
-use timing_analysis::{CaseAtRest, Rested, Subject};
+use timing_analysis::{SettledCase, SettledBase, Subject};
 
 /// What is told of a circuit, and the round in which its base settled.
 #[derive(Drop)]
@@ -45,17 +45,17 @@ pub fn told_of(
 ) -> Result<Explained, EngineEnd>
     requires is { IsSubject subject.now }
     requires few { limit ≤ 10000000 }
-    ensures rests { IfOk result (λ told. RestsAt (base_round subject.now.circuit) limit told.base) }
+    ensures settles { IfOk result (λ told. SettlesAt (base_round subject.now.circuit) limit told.base) }
     ensures told { IfOk result (λ told. IsTold (explained (drawing_of drawing.now)) subject.now.circuit limit told.base
         (listed_cases subject.now.cases) told.reply.outcome told.reply.bytes) }
     ensures ended { IfErr result (EndsEarly subject.now.circuit subject.now.cases limit) }
 {
-    let rested = subject.base::<RunWave<Value>>(alloc, limit)?;
-    let base = rested.base.rounds;
+    let settled_base = subject.base::<RunWave<Value>>(alloc, limit)?;
+    let base = settled_base.base.rounds;
     let reply = if subject.cases.is_empty() {
-        only_case(alloc, drawing, subject, limit, rested)?
+        only_case(alloc, drawing, subject, limit, settled_base)?
     } else {
-        each_case(alloc, drawing, subject, limit, rested)?
+        each_case(alloc, drawing, subject, limit, settled_base)?
     };
     Ok(Explained { reply, base })
 }
@@ -66,7 +66,7 @@ fn told_alone(
     drawing: &Drawing,
     circuit: &Circuit,
     store: &Store<RunWave<Value>>,
-    case: &CaseAtRest,
+    case: &SettledCase,
 ) -> Result<Reply<Outcome>, NoMemory>
     requires known { AreKnown store.now case.now.settled.numbers }
     requires fit { FitWaves circuit.now (waves_at store.now case.now.settled.numbers) }
@@ -93,20 +93,20 @@ fn only_case(
     drawing: &Drawing,
     subject: &Subject,
     limit: u32,
-    rested: Rested<RunWave<Value>>,
+    settled_base: SettledBase<RunWave<Value>>,
 ) -> Result<Reply<Outcome>, NoMemory>
     requires is { IsSubject subject.now }
     requires few { limit ≤ 10000000 }
-    requires rest { IsBaseIn subject.now.circuit limit
-        rested.base.rounds rested.store rested.base.numbers rested.known }
+    requires settled { IsBaseIn subject.now.circuit limit
+        settled_base.base.rounds settled_base.store settled_base.base.numbers settled_base.known }
     ensures { IfOk result (λ reply. IsTold (explained (drawing_of drawing.now)) subject.now.circuit limit
-        rested.base.rounds (listed_cases []) reply.outcome reply.bytes) }
+        settled_base.base.rounds (listed_cases []) reply.outcome reply.bytes) }
 {
     let circuit = &subject.circuit;
     circuit.known();
     circuit.header().known();
     faults_are_within();
-    let (store, case) = rested.only_case(alloc, subject, limit)?;
+    let (store, case) = settled_base.only_case(alloc, subject, limit)?;
     told_alone(alloc, drawing, circuit, &store, &case)
 }
 
@@ -116,27 +116,27 @@ fn add_cases(
     drawing: &Drawing,
     subject: &Subject,
     limit: u32,
-    rested: &mut Rested<RunWave<Value>>,
+    settled_base: &mut SettledBase<RunWave<Value>>,
     kept: &mut Explanations,
 ) -> Result<(), EngineEnd>
     requires is { IsSubject subject.now }
     requires few { limit ≤ 10000000 }
-    requires rest { IsBaseIn subject.now.circuit limit
-        rested.old.base.rounds rested.old.store rested.old.base.numbers rested.old.known }
+    requires settled { IsBaseIn subject.now.circuit limit
+        settled_base.old.base.rounds settled_base.old.store settled_base.old.base.numbers settled_base.old.known }
     requires told { HasExplained (drawing_of drawing.now) kept.old subject.now.circuit [] }
     requires none { kept.old.total ≡ 0 }
     ensures told { OnOk result (HasTold (HasExplained (drawing_of drawing.now)) kept.new subject.now.circuit
-        limit rested.old.base.rounds (numbered 1 subject.now.cases)) }
+        limit settled_base.old.base.rounds (numbered 1 subject.now.cases)) }
     ensures ended { IfErr result
-        (EndsCases subject.now.circuit limit rested.old.base.rounds (numbered 1 subject.now.cases)) }
+        (EndsCases subject.now.circuit limit settled_base.old.base.rounds (numbered 1 subject.now.cases)) }
 {
     let circuit = &subject.circuit;
     circuit.known();
     circuit.header().known();
     faults_are_within();
     for place in 0..subject.cases.len() as u32 {
-        let case = subject.case(alloc, rested, place, limit)?;
-        let waves = Waves::new(rested.store.waves(), case.settled.numbers.as_slice());
+        let case = subject.case(alloc, settled_base, place, limit)?;
+        let waves = Waves::new(settled_base.store.waves(), case.settled.numbers.as_slice());
         kept.add_case(alloc, drawing, circuit, &case, &waves)?;
     }
     Ok(())
@@ -148,19 +148,19 @@ fn told_cases(
     drawing: &Drawing,
     subject: &Subject,
     limit: u32,
-    rested: &mut Rested<RunWave<Value>>,
+    settled_base: &mut SettledBase<RunWave<Value>>,
 ) -> Result<Reply<Outcome>, EngineEnd>
     requires is { IsSubject subject.now }
     requires few { limit ≤ 10000000 }
-    requires rest { IsBaseIn subject.now.circuit limit
-        rested.old.base.rounds rested.old.store rested.old.base.numbers rested.old.known }
+    requires settled { IsBaseIn subject.now.circuit limit
+        settled_base.old.base.rounds settled_base.old.store settled_base.old.base.numbers settled_base.old.known }
     ensures told { IfOk result (λ reply. IsTold (explained (drawing_of drawing.now)) subject.now.circuit limit
-        rested.old.base.rounds (numbered 1 subject.now.cases) reply.outcome reply.bytes) }
+        settled_base.old.base.rounds (numbered 1 subject.now.cases) reply.outcome reply.bytes) }
     ensures ended { IfErr result
-        (EndsCases subject.now.circuit limit rested.old.base.rounds (numbered 1 subject.now.cases)) }
+        (EndsCases subject.now.circuit limit settled_base.old.base.rounds (numbered 1 subject.now.cases)) }
 {
     let mut kept = Explanations::begin(alloc, drawing, &subject.circuit)?;
-    add_cases(alloc, drawing, subject, limit, rested, &mut kept)?;
+    add_cases(alloc, drawing, subject, limit, settled_base, &mut kept)?;
     Ok(kept.end(alloc)?)
 }
 
@@ -170,17 +170,17 @@ fn each_case(
     drawing: &Drawing,
     subject: &Subject,
     limit: u32,
-    rested: Rested<RunWave<Value>>,
+    settled_base: SettledBase<RunWave<Value>>,
 ) -> Result<Reply<Outcome>, EngineEnd>
     requires is { IsSubject subject.now }
     requires few { limit ≤ 10000000 }
-    requires rest { IsBaseIn subject.now.circuit
-        limit rested.base.rounds rested.store rested.base.numbers rested.known }
+    requires settled { IsBaseIn subject.now.circuit
+        limit settled_base.base.rounds settled_base.store settled_base.base.numbers settled_base.known }
     ensures told { IfOk result (λ reply. IsTold (explained (drawing_of drawing.now)) subject.now.circuit limit
-        rested.base.rounds (numbered 1 subject.now.cases) reply.outcome reply.bytes) }
+        settled_base.base.rounds (numbered 1 subject.now.cases) reply.outcome reply.bytes) }
     ensures ended { IfErr result
-        (EndsCases subject.now.circuit limit rested.base.rounds (numbered 1 subject.now.cases)) }
+        (EndsCases subject.now.circuit limit settled_base.base.rounds (numbered 1 subject.now.cases)) }
 {
-    let mut rested = rested;
-    told_cases(alloc, drawing, subject, limit, &mut rested)
+    let mut settled_base = settled_base;
+    told_cases(alloc, drawing, subject, limit, &mut settled_base)
 }

@@ -7,7 +7,7 @@ ghost use Rattle.drawing_tree.specs.Tree.{Drawing as Drawn, drawing_of};
 ghost use Rattle.fixpoint_engine.specs.Waves.{FitWaves, waves_of};
 ghost use Rattle.fixpoint_engine.specs.Settled.{marked_in};
 ghost use Rattle.timing_analysis.specs.Case.{Case, Listed, faults_of};
-ghost use Rattle.timing_analysis.specs.Rested.{settled_case};
+ghost use Rattle.timing_analysis.specs.Settled.{settled_case};
 ghost use Rattle.text_groups.specs.Group.{added, gathered};
 ghost use Rattle.fault_account.specs.Account.{IsAccount};
 ghost use Rattle.fault_account.specs.Laws.{AreWithin};
@@ -34,7 +34,7 @@ use scald_base::{Bytes, NoMemory, Outcome};
 use std::alloc::Global;
 use step_values::Value;
 use text_groups::Groups;
-use timing_analysis::CaseAtRest;
+use timing_analysis::SettledCase;
 use wave_core::CyclicWave;
 
 /// The lines of the cases so far, their rows with the numbers of the cases of each, and how many faults
@@ -276,7 +276,7 @@ impl Explanations {
         alloc: Global,
         drawing: &Drawing,
         circuit: &Circuit,
-        case: &CaseAtRest,
+        case: &SettledCase,
         waves: &Waves<RunWave<Value>>,
     ) -> Result<(), NoMemory>
         requires few { self.old.total ≤ 4294508543 }

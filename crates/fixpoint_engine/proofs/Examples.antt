@@ -91,9 +91,9 @@ skews_are_folded : after paths 2 3 ≡ skewed (Zero ∷ Zero ∷ Zero ∷ R ∷ 
 unfolding image1 image2 and_image and_of xor_image xor_of round next instance_wave gate_wave meeting hazard back earlier normal moved
 skews_are_folded = refl
 
-paths_rest : after paths 3 3 ≡ after paths 2 3
+paths_settle : after paths 3 3 ≡ after paths 2 3
 unfolding image1 image2 and_image and_of xor_image xor_of round next instance_wave gate_wave meeting hazard back earlier normal moved
-paths_rest = refl
+paths_settle = refl
 
 -- three are due in round 1, and the AND once more
 paths_work : work_to paths (is_driven paths) (after paths) 3 ≡ 4
@@ -132,9 +132,9 @@ split_of_the_complement : after two_by_two 3 3 ≡ skewed (S ∷ F ∷ F ∷ Zer
 unfolding image1 round next instance_wave gate_wave split_wave meeting hazard back earlier normal moved
 split_of_the_complement = refl
 
-split_rests : after two_by_two 4 3 ≡ after two_by_two 3 3
+split_settles : after two_by_two 4 3 ≡ after two_by_two 3 3
 unfolding image1 round next instance_wave gate_wave split_wave meeting hazard back earlier normal moved
-split_rests = refl
+split_settles = refl
 
 -- three are due in round 1, the second in round 2, and the third in round 3
 split_work : work_to two_by_two (is_driven two_by_two) (after two_by_two) 4 ≡ 5
@@ -159,9 +159,9 @@ loop_input : after loop 2 2 ≡ skewed (S ∷ S ∷ S ∷ C ∷ S ∷ S ∷ S �
 unfolding image1 reg_image reg_of round next instance_wave gate_wave storage_wave meeting hazard back earlier normal moved
 loop_input = refl
 
-loop_rests : after loop 3 2 ≡ after loop 2 2
+loop_settles : after loop 3 2 ≡ after loop 2 2
 unfolding image1 reg_image reg_of round next instance_wave gate_wave storage_wave meeting hazard back earlier normal moved
-loop_rests = refl
+loop_settles = refl
 
 -- The buffer alone is due in round 2, since the register does not listen to its input.
 loop_work : work_to loop (is_driven loop) (after loop) 3 ≡ 3
@@ -185,18 +185,18 @@ cleared : after (fed_back And) 3 1 ≡ skewed (Zero ∷ Zero ∷ Zero ∷ Zero �
 unfolding image1 image2 and_image and_of xor_image xor_of round next instance_wave gate_wave meeting hazard back earlier normal moved
 cleared = refl
 
-clear_rests : after (fed_back And) 4 1 ≡ after (fed_back And) 3 1
+clear_settles : after (fed_back And) 4 1 ≡ after (fed_back And) 3 1
 unfolding image1 image2 and_image and_of xor_image xor_of round next instance_wave gate_wave meeting hazard back earlier normal moved
-clear_rests = refl
+clear_settles = refl
 
 -- ---- a skew past the period is one tick less than it
 
 abbrev slow : Circuit
 slow = circuit (clock ∷ driven_by 0 ∷ driven_by 1 ∷ []) (element Buf (bounds 0 4095) (on 0 ∷ []) 1 ∷ element Buf (bounds 0 4095) (on 1 ∷ []) 2 ∷ [])
 
-slow_rests : after slow 3 2 ≡ skewed (Zero ∷ Zero ∷ R ∷ F ∷ Zero ∷ Zero ∷ Zero ∷ Zero ∷ []) 7
+slow_settles : after slow 3 2 ≡ skewed (Zero ∷ Zero ∷ R ∷ F ∷ Zero ∷ Zero ∷ Zero ∷ Zero ∷ []) 7
 unfolding image1 image2 and_image and_of xor_image xor_of round next instance_wave gate_wave meeting hazard back earlier normal moved
-slow_rests = refl
+slow_settles = refl
 
 slow_reach : reach slow ≡ 4096
 slow_reach = refl

@@ -1,4 +1,4 @@
--- How far circuits look back, where rounds begin, and when they rest, worked out on paper.
+-- How far circuits look back, where rounds begin, and when they settle, worked out on paper.
 use Rattle.std.proofs.Common.{◌≡◌, ℕ, zero, suc, ◌<◌, ◌≤◌, ◌==◌, min, true, false, if◌then◌else◌, List, [], ◌∷◌, map, Some, None, refl, ap, arith}
 use Rattle.scald_base.specs.Clock.{back}
 use Rattle.scald_base.specs.declared.assertion.AssertSpec.TheVariants.{None as Unasserted}
@@ -14,7 +14,7 @@ use Rattle.flat_circuit.specs.declared.net.Net.{Net}
 use Rattle.flat_circuit.specs.declared.split.Split.{Split}
 use Rattle.flat_circuit.specs.Split.{either_delay}
 use Rattle.fixpoint_engine.proofs.ExamplesInterface.{bounds, net, element, on, circuit, small}
-use Rattle.fixpoint_engine.specs.Rounds.{RestsAt, IsUnsettled}
+use Rattle.fixpoint_engine.specs.Rounds.{SettlesAt, IsUnsettled}
 use Rattle.fixpoint_engine.specs.Start.{base_start, is_driven}
 use Rattle.fixpoint_engine.specs.Reach.{reach, greatest_delay}
 
@@ -86,7 +86,7 @@ driven : map (is_driven small) (0 ∷ 1 ∷ 2 ∷ 3 ∷ 4 ∷ 5 ∷ []) ≡ fals
     ∷ false ∷ []
 driven = refl
 
--- ---- rest: one net changes up to round 2
+-- ---- settling: one net changes up to round 2
 
 abbrev changing : ℕ → ℕ → ℕ → Wave Value
 changing net r i = if i == net then skewed [] (min r 2) else skewed [] 0
@@ -97,8 +97,8 @@ wave_in r i = changing 5 r i
 apart : (m n : ℕ) → ◌≡◌ {A = Wave Value} (skewed [] m) (skewed [] n) → m ≡ n
 apart m n same = ap (λ (w : Wave Value). w.skew) same
 
-rests : RestsAt wave_in 2 2
-rests = record {
+settles : SettlesAt wave_in 2 2
+settles = record {
   still = λ i. refl;
   first = elim [
     | zero ↦ λ below same. let e : 1 ≡ 0 = apart 1 0 (same 5) in omega (arith, e)
@@ -109,14 +109,14 @@ rests = record {
 }
 
 -- not within a limit of one round, nor a round sooner or later
-limited : RestsAt wave_in 1 2 → ⊥
-limited rest = let within : 2 ≤ 1 = rest.within in omega (arith, within)
+limited : SettlesAt wave_in 1 2 → ⊥
+limited is = let within : 2 ≤ 1 = is.within in omega (arith, within)
 
-not_before : RestsAt wave_in 9 1 → ⊥
-not_before rest = let e : 2 ≡ 1 = apart 2 1 (rest.still 5) in omega (arith, e)
+not_before : SettlesAt wave_in 9 1 → ⊥
+not_before is = let e : 2 ≡ 1 = apart 2 1 (is.still 5) in omega (arith, e)
 
-not_later : RestsAt wave_in 9 3 → ⊥
-not_later rest = rest.first 2 (omega arith) (λ i. refl)
+not_later : SettlesAt wave_in 9 3 → ⊥
+not_later is = is.first 2 (omega arith) (λ i. refl)
 
 -- with one round allowed, net 5 is the first in this order that still differs, at place 1
 unsettled : IsUnsettled (7 ∷ 5 ∷ 5 ∷ 3 ∷ []) wave_in 1 1

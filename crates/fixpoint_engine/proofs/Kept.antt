@@ -1,4 +1,4 @@
--- What the worklist has come to after some rounds, and how a round more, rest and the limit follow.
+-- What the worklist has come to after some rounds, and how a round more, settling and the limit follow.
 use Rattle.std.proofs.Common.{◌≡◌, ℕ, Option, zero, suc, ◌+◌, ◌*◌, ◌<◌, ◌≤◌, ◌==◌, inl, inr, Bool}
 use Rattle.std.proofs.Common.{true, false, not, ◌&&◌, ◌||◌, cond, All, List, [], ◌∷◌, length, map}
 use Rattle.std.proofs.Common.{refl, sym, ap, subst, ◌∙◌, arith, Some, None}
@@ -30,7 +30,7 @@ use Rattle.fixpoint_engine.specs.declared.rounds.EngineEnd.{EngineEnd}
 use Rattle.fixpoint_engine.specs.Reach.{reach}
 use Rattle.fixpoint_engine.specs.Rounds.{evaluated, round, AreSame}
 use Rattle.fixpoint_engine.specs.Work.{differs, hears_in, is_due}
-use Rattle.fixpoint_engine.specs.Settled.{marked_in, FitActive, AreAtRest, KeepRuns}
+use Rattle.fixpoint_engine.specs.Settled.{marked_in, FitActive, AreSettled, KeepRuns}
 use Rattle.fixpoint_engine.specs.End.{EndsAt, EndsFor}
 use Rattle.fixpoint_engine.specs.Worklist.{Queue, IsQueue, Change, changes_of, changed, among}
 use Rattle.fixpoint_engine.specs.Classes.{HaveOneWave, AreTogether, OneStandsForAll, is_first, due_classes, class_work_to}
@@ -43,7 +43,7 @@ use Rattle.fixpoint_engine.proofs.Waiting.{waiting_below, waiting_few}
 use Rattle.fixpoint_engine.proofs.Reached.{Reached, reached_start, undue_stays, due_takes}
 use Rattle.fixpoint_engine.proofs.Due.{among_waiting, waiting_count, changes_is, first_due, later_due}
 use Rattle.fixpoint_engine.proofs.Sound.{round_sound}
-use Rattle.fixpoint_engine.proofs.Turns.{nets_of, Turn, turn_rests, turn_reaches, turn_fits, turn_ends}
+use Rattle.fixpoint_engine.proofs.Turns.{nets_of, Turn, turn_settles, turn_reaches, turn_fits, turn_ends}
 use Rattle.fixpoint_engine.proofs.Classes.{differ_together, rounds_same}
 use Rattle.fixpoint_engine.specs.Members.{is_with}
 use Rattle.fixpoint_engine.proofs.Members.{nets_in, nets_for_classes, exist_for_classes, waves_for_classes, IsTo}
@@ -235,8 +235,8 @@ module _ (c : Circuit) (active : ℕ → Bool) (ks : List ℕ) (start : Waves) (
       pub turn : Turn c active start waves r made
       turn = record { nets = nets_are; next = next_is }
 
-      pub rests : (limit : ℕ) → length made ≡ 0 → r ≤ limit → AreAtRest c active start limit r (waves_of waves)
-      rests limit none within = turn_rests c active start waves r kept.reached limit made turn none within
+      pub settles : (limit : ℕ) → length made ≡ 0 → r ≤ limit → AreSettled c active start limit r (waves_of waves)
+      settles limit none within = turn_settles c active start waves r kept.reached limit made turn none within
 
       -- ---- how many evaluations
 

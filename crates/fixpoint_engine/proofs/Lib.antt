@@ -25,7 +25,7 @@ pub mod Sound
 pub mod Normal
 pub mod Places
 pub mod Reached
-pub mod Rest
+pub mod Settling
 pub mod Rows
 pub mod Changing
 pub mod Waiting

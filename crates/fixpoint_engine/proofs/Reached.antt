@@ -1,10 +1,10 @@
--- Rounds one after the other: what is not due stays, and how rounds come to rest or do not.
+-- Rounds one after the other: what is not due stays, and how rounds settle or do not.
 use Rattle.std.proofs.Common.{◌≡◌, ℕ, zero, suc, ◌<◌, ◌≤◌, Bool, true, false, ◌&&◌, cond, refl, sym, ◌∙◌, arith, below_more}
 use Rattle.flat_circuit.specs.Circuit.{Circuit, driver}
 use Rattle.fixpoint_engine.specs.Waves.{Waves}
 use Rattle.fixpoint_engine.specs.Rounds.{evaluated, next, round, AreSame, DiffersFirst, IsUnsettled}
 use Rattle.fixpoint_engine.specs.Work.{differs, hears_in, is_due}
-use Rattle.fixpoint_engine.specs.Settled.{AreAtRest}
+use Rattle.fixpoint_engine.specs.Settled.{AreSettled}
 use Rattle.fixpoint_engine.proofs.Hearing.{stays}
 
 pub round_next : (c : Circuit) (active : ℕ → Bool) (start : Waves) (r i : ℕ) → round c active start (suc r) i ≡ next c active (round c active start r) i
@@ -39,7 +39,7 @@ due_takes c active start (suc r) i due = round_next c active start (suc r) i ∙
     by true due = refl
     by false due = cc
 
--- what has been found after r rounds: these waves are those of round r, and no round before was at rest
+-- what has been found after r rounds: these waves are those of round r, and no round before had settled
 pub record Reached (c : Circuit) (active : ℕ → Bool) (start : Waves) (r : ℕ) (ws : Waves) : Type 0 where
   pub is : AreSame ws (round c active start r)
   pub moving : (s : ℕ) → s < r → ¬ AreSame (round c active start (suc s)) (round c active start s)
@@ -56,13 +56,13 @@ reached_more c active start ws after r reached same moves = record {
       λ s below. below_more (λ k. ¬ AreSame (round c active start (suc k)) (round c active start k)) r reached.moving moves s (omega arith);
 }
 
-pub at_rest : (c : Circuit) (active : ℕ → Bool) (start ws : Waves) (limit r : ℕ) → Reached c active start r ws → r ≤ limit → AreSame (round c active start (suc r)) (round c active start r) →
-    AreAtRest c active start limit r ws
-at_rest c active start ws limit r reached within still = record { rests = record { still = still; first = reached.moving; within = within }; waves = reached.is }
+pub are_settled : (c : Circuit) (active : ℕ → Bool) (start ws : Waves) (limit r : ℕ) → Reached c active start r ws → r ≤ limit → AreSame (round c active start (suc r)) (round c active start r) →
+    AreSettled c active start limit r ws
+are_settled c active start ws limit r reached within still = record { settles = record { still = still; first = reached.moving; within = within }; waves = reached.is }
 
-pub not_at_rest : (c : Circuit) (active : ℕ → Bool) (start ws : Waves) (limit place : ℕ) → Reached c active start limit ws →
+pub not_settled : (c : Circuit) (active : ℕ → Bool) (start ws : Waves) (limit place : ℕ) → Reached c active start limit ws →
     DiffersFirst c.order (round c active start limit) (round c active start (suc limit)) place → IsUnsettled c.order (round c active start) limit place
-not_at_rest c active start ws limit place reached differs = record {
+not_settled c active start ws limit place reached differs = record {
   never = λ r within. below_more (λ s. ¬ AreSame (round c active start (suc s)) (round c active start s)) limit reached.moving
       (λ still. differs.differs (sym (still _))) r (omega arith);
   first = differs;

@@ -1,4 +1,4 @@
--- A round more, by changes that lead to it: rest, movement and the limit follow, whichever nets were evaluated for them.
+-- A round more, by changes that lead to it: settling, movement and the limit follow, whichever nets were evaluated for them.
 use Rattle.std.proofs.Common.{◌≡◌, ℕ, suc, ◌<◌, ◌≤◌, Bool, true, false, not, ◌||◌, List, [], ◌∷◌, length, map, refl, sym, ap, ◌∙◌, arith}
 use Rattle.std.proofs.lemmas.Bool.{both_ways, eq-eqb, not-false}
 use Rattle.scald_base.specs.Time.{period}
@@ -13,12 +13,12 @@ use Rattle.fixpoint_engine.specs.declared.rounds.EngineEnd.{EngineEnd}
 use Rattle.fixpoint_engine.specs.declared.rounds.EngineEnd.TheVariants.{Unsettled, NoMemory}
 use Rattle.fixpoint_engine.specs.Rounds.{round, AreSame}
 use Rattle.fixpoint_engine.specs.Work.{differs}
-use Rattle.fixpoint_engine.specs.Settled.{AreAtRest}
+use Rattle.fixpoint_engine.specs.Settled.{AreSettled}
 use Rattle.fixpoint_engine.specs.End.{EndsAt, EndsFor}
 use Rattle.fixpoint_engine.specs.Worklist.{Change, changed, among}
 use Rattle.fixpoint_engine.proofs.Same.{same_wave_is, same_wave_self}
 use Rattle.fixpoint_engine.proofs.Changing.{length_changed}
-use Rattle.fixpoint_engine.proofs.Reached.{Reached, reached_more, at_rest, not_at_rest}
+use Rattle.fixpoint_engine.proofs.Reached.{Reached, reached_more, are_settled, not_settled}
 use Rattle.fixpoint_engine.proofs.Sound.{round_long}
 
 abbrev pub nets_of : List Change → ℕ → Bool
@@ -30,9 +30,9 @@ pub record Turn (c : Circuit) (active : ℕ → Bool) (start : Waves) (waves : L
   pub next : AreSame (waves_of (changed waves made)) (round c active start (suc r))
 
 module _ (c : Circuit) (active : ℕ → Bool) (start : Waves) (waves : List (Wave Value)) (r : ℕ) (reached : Reached c active start r (waves_of waves)) where
-  pub turn_rests : (limit : ℕ) (made : List Change) → Turn c active start waves r made → length made ≡ 0 → r ≤ limit → AreAtRest c active start limit r (waves_of waves)
-  turn_rests limit [] turn none within = at_rest c active start (waves_of waves) limit r reached within (λ i. sym (turn.next i) ∙ reached.is i)
-  turn_rests limit (ch ∷ made) turn none within = absurd (omega arith)
+  pub turn_settles : (limit : ℕ) (made : List Change) → Turn c active start waves r made → length made ≡ 0 → r ≤ limit → AreSettled c active start limit r (waves_of waves)
+  turn_settles limit [] turn none within = are_settled c active start (waves_of waves) limit r reached within (λ i. sym (turn.next i) ∙ reached.is i)
+  turn_settles limit (ch ∷ made) turn none within = absurd (omega arith)
 
   pub turn_moves : (made : List Change) → Turn c active start waves r made → 0 < length made → ¬ AreSame (round c active start (suc r)) (round c active start r)
   turn_moves [] turn some same = omega arith
@@ -46,7 +46,7 @@ module _ (c : Circuit) (active : ℕ → Bool) (start : Waves) (waves : List (Wa
     pub turn_ends : (e : EngineEnd) → EndsAt c.order (nets_of made) r e → EndsFor c.order (round c active start) r e
     turn_ends NoMemory at = tt
     turn_ends (Unsettled place n) at = (
-      not_at_rest c active start (waves_of waves) r place reached (record {
+      not_settled c active start (waves_of waves) r place reached (record {
         below = at.0.below;
         differs = λ same. both_ways (differs (round c active start r) (round c active start (suc r)) (net_at c.order place))
             (ap (λ (w : Wave Value). not (same_wave (round c active start r (net_at c.order place)) w)) (sym same) ∙ ap not (same_wave_self (round c active start r (net_at c.order place))))

@@ -32,7 +32,7 @@ abbrev pub AreSame : Waves → Waves → Type 0
 AreSame ws vs = (i : ℕ) → ws i ≡ vs i
 
 -- The rounds settle: r is the first that the next one equals, and within the limit.
-pub record RestsAt (rounds : ℕ → Waves) (limit r : ℕ) : Type 0 where
+pub record SettlesAt (rounds : ℕ → Waves) (limit r : ℕ) : Type 0 where
   pub still : AreSame (rounds (suc r)) (rounds r)
   pub first : (s : ℕ) → s < r → ¬ AreSame (rounds (suc s)) (rounds s)
   pub within : r ≤ limit

@@ -5,7 +5,7 @@ use Rattle.flat_circuit.specs.Circuit.{Circuit, driver_at}
 use Rattle.flat_circuit.specs.Run.{Run, IsRun}
 use Rattle.fixpoint_engine.specs.Waves.{Waves}
 use Rattle.fixpoint_engine.specs.Interface.{PermitRun}
-use Rattle.fixpoint_engine.specs.Rounds.{round, RestsAt, AreSame}
+use Rattle.fixpoint_engine.specs.Rounds.{round, SettlesAt, AreSame}
 use Rattle.fixpoint_engine.specs.Reach.{reach}
 
 -- the nets of a set that is kept as a mark for each net
@@ -17,9 +17,9 @@ abbrev pub FitActive : Circuit → List Bool → Type 0
 FitActive c active = (i : ℕ) → marked_in active i ≡ true → is_some (driver_at c.nets i) ≡ true
 
 -- the waves are those of the first round that the next one equals
-pub record AreAtRest (c : Circuit) (active : ℕ → Bool) (start : Waves) (limit r : ℕ)
+pub record AreSettled (c : Circuit) (active : ℕ → Bool) (start : Waves) (limit r : ℕ)
     (settled : Waves) : Type 0 where
-  pub rests : RestsAt (round c active start) limit r
+  pub settles : SettlesAt (round c active start) limit r
   pub waves : AreSame settled (round c active start r)
 
 -- Each round needs `reach` ticks more until its waves permit a run.

@@ -8,7 +8,7 @@ ghost use Rattle.fixpoint_engine.specs.Table.{AreKnown, Grows, waves_at};
 ghost use Rattle.fixpoint_engine.specs.Waves.{FitWaves, waves_of};
 ghost use Rattle.fixpoint_engine.specs.Key.{AreConstants};
 ghost use Rattle.fixpoint_engine.specs.Rounds.{round};
-ghost use Rattle.fixpoint_engine.specs.Settled.{AreAtRest, FitActive, KeepRuns, marked_in};
+ghost use Rattle.fixpoint_engine.specs.Settled.{AreSettled, FitActive, KeepRuns, marked_in};
 ghost use Rattle.fixpoint_engine.specs.Classes.{OneStandsForAll};
 ghost use Rattle.fixpoint_engine.specs.Hearers.{AreHearers};
 ghost use Rattle.fixpoint_engine.specs.Members.{evaluations_to, numbers_in};
@@ -161,8 +161,8 @@ pub fn settle<W: CyclicWave<Item = Value>>(
         (waves_of (waves_at store.old start.now)) }
     ensures grows { Grows store.old store.new }
     ensures known { IfOk result (λ s. AreKnown store.new s.numbers) }
-    ensures rest { let first = waves_of (waves_at store.old start.now) in
-        IfOk result (λ s. AreAtRest c.now (marked_in active.now) first limit s.rounds
+    ensures settled { let first = waves_of (waves_at store.old start.now) in
+        IfOk result (λ s. AreSettled c.now (marked_in active.now) first limit s.rounds
         (waves_of (waves_at store.new s.numbers))) }
     ensures fit { IfOk result (λ s. FitWaves c.now (waves_at store.new s.numbers)) }
     ensures work { let first = waves_of (waves_at store.old start.now) in

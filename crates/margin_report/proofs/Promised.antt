@@ -4,7 +4,7 @@ use Rattle.scald_base.specs.declared.outcome.Outcome.{Outcome}
 use Rattle.scald_base.specs.Outcome.{end_of}
 use Rattle.drawing_tree.specs.Tree.{Drawing}
 use Rattle.program_call.specs.Answer as answer
-use Rattle.program_call.specs.Answer.{Evaluated, Reporting, rested}
+use Rattle.program_call.specs.Answer.{Evaluated, Reporting, settled}
 use Rattle.program_call.specs.Promise.{SettlesLoopless, Writes}
 use Rattle.program_call.proofs.Judgement.{IsOne}
 use Rattle.program_call.proofs.Outcomes.{HoldsOfReports, evaluated_has, evaluated_settles}
@@ -32,9 +32,9 @@ is_given text o bytes =
 pub is_written : (text : List ℕ) (o : Outcome) (taken taken' : Option (List ℕ)) →
     ((reply : Outcome) (bytes : List ℕ) → Evaluated Margins None text reply bytes →
     Writes reply bytes o taken taken') → WritesMargins text o taken taken'
-is_written text o taken taken' writes c values base cases drawn rests at_rest =
+is_written text o taken taken' writes c values base cases drawn settles are_settled =
     writes _ _ (answer.judged c values _ _ drawn
-    (rested base cases _ _ rests at_rest (record { outcome = refl; text = refl })))
+    (settled base cases _ _ settles are_settled (record { outcome = refl; text = refl })))
 
 pub is_settled : (text : List ℕ) (o : Outcome) (bytes : List ℕ) →
     Evaluated Margins None text o bytes → SettlesLoopless text o

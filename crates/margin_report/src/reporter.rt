@@ -10,7 +10,7 @@ use program_call::{Reply, Reporter};
 use scald_base::{Bytes, NoMemory, Outcome};
 use std::alloc::Global;
 use step_values::Value;
-use timing_analysis::CaseAtRest;
+use timing_analysis::SettledCase;
 use wave_core::CyclicWave;
 
 /// The version of the drawing, and the margins over the cases so far.
@@ -34,7 +34,8 @@ impl Reporter for Margins {
 
     ghost reports = { λ asked. AreMargins };
 
-    ghost holds = { λ margins asked version c base cases. (margins.version ≡ version) × (margins.rows ≡ rows c cases) };
+    ghost holds = { λ margins asked version c base cases. (margins.version ≡ version)
+        × (margins.rows ≡ rows c cases) };
 
     ghost ready = { λ margins c cases. All (IsRow c) margins.rows };
 
@@ -58,7 +59,7 @@ impl Reporter for Margins {
         alloc: Global,
         circuit: &Circuit,
         _place: u32,
-        case: &CaseAtRest,
+        case: &SettledCase,
         waves: &Waves<W>,
     ) -> Result<(), NoMemory> {
         lower(&mut self.rows, alloc, circuit, case.number, waves)

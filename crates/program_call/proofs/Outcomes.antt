@@ -11,13 +11,13 @@ use Rattle.flat_circuit.specs.Circuit.{Circuit, IsCircuit}
 use Rattle.fixpoint_engine.specs.Waves.{Waves}
 use Rattle.fixpoint_engine.specs.Loops.{HasNoLoop}
 use Rattle.fixpoint_engine.specs.Rounds.{IsUnsettled, round}
-use Rattle.fixpoint_engine.proofs.Rest.{rests_by_outputs}
+use Rattle.fixpoint_engine.proofs.Settling.{settles_by_outputs}
 use Rattle.case_analysis.specs.Case.{case_active}
 use Rattle.timing_analysis.specs.Case.{Case}
 use Rattle.timing_analysis.specs.Ended.{StopsEarly, by_base, by_case}
 use Rattle.program_call.specs.Answer as answer
 use Rattle.fixpoint_engine.specs.Start.{default_limit}
-use Rattle.program_call.specs.Answer.{Reporting, Concluded, Evaluated, limit_for, rested, unsettled}
+use Rattle.program_call.specs.Answer.{Reporting, Concluded, Evaluated, limit_for, settled, unsettled}
 use Rattle.program_call.specs.Answer.{verdict_of}
 use Rattle.program_call.specs.Promise.{SettlesLoopless, may_count}
 
@@ -36,7 +36,7 @@ concluded_has : (P : Outcome → Type 0) (Reports : Reporting) (c : Circuit)
     ((place : ℕ) → StopsEarly c values limit place → P (Unsettled place limit)) →
     Concluded Reports c values limit o bytes → P o
 concluded_has P Reports c values limit _ _ holds of_net
-    (rested base cases o bytes rests at_rest is) = holds base cases o bytes is
+    (settled base cases o bytes settles are_settled is) = holds base cases o bytes is
 concluded_has P Reports c values limit _ _ holds of_net (unsettled place stops) = of_net place stops
 
 pub evaluated_has : (P : Outcome → Type 0) → ((place last : ℕ) → P (Unsettled place last)) →
@@ -58,12 +58,12 @@ NamesNoNet o = (place last : ℕ) → o ≢ Unsettled place last
 
 ever_still : (c : Circuit) (active : ℕ → Bool) (start : Waves) (limit place : ℕ) → IsCircuit c → HasNoLoop c → outputs c.instances ≤ limit →
     IsUnsettled c.order (round c active start) limit place → ⊥
-ever_still c active start limit place known none within is = is.never (outputs c.instances) within (rests_by_outputs c active start known none)
+ever_still c active start limit place known none within is = is.never (outputs c.instances) within (settles_by_outputs c active start known none)
 
 pub never_stops : (c : Circuit) (values : List (List CaseValue)) (limit place : ℕ) → IsCircuit c → HasNoLoop c → outputs c.instances ≤ limit →
     StopsEarly c values limit place → ⊥
 never_stops c values limit place known none within (by_base is) = ever_still c _ _ limit place known none within is
-never_stops c values limit place known none within (by_case base rests stops) =
+never_stops c values limit place known none within (by_case base settles stops) =
     let never = stops.never in
     ever_still c (case_active c never.cone) _ limit place known none within never.is
 

@@ -17,7 +17,7 @@ use Rattle.listing.specs.Answer.{refusal_line}
 use Rattle.program_call.specs.declared.reply.Reply.{Reply}
 use Rattle.program_call.specs.Answer as answer
 use Rattle.program_call.specs.Answer.{Reporting, limit_for, Concluded, Evaluated, is_finished}
-use Rattle.program_call.specs.Answer.{judged, rested}
+use Rattle.program_call.specs.Answer.{judged, settled}
 use Rattle.program_call.specs.Ended.{IsEnded}
 use Rattle.program_call.specs.Reporter.{IsRead, IsReported}
 use Rattle.program_call.proofs.Ending.{concluded_ended}
@@ -75,7 +75,7 @@ module _ {Kept : Type 0} (keeps : Drawing → Kept) (Reports : Kept → Reportin
       IsReported (Reports kept) subject.circuit subject.cases limit o bytes →
       Evaluated (λ (d : Drawing). Reports (keeps d)) rounds text o bytes
   reported_evaluated o bytes is =
-      evaluated o bytes (rested is.base is.of_cases.cases o bytes is.rests is.of_cases.at_rest
+      evaluated o bytes (settled is.base is.of_cases.cases o bytes is.settles is.of_cases.are_settled
       is.of_cases.holds)
 
   pub reported_faultless : (o : Outcome) (bytes : List ℕ) →
@@ -88,9 +88,9 @@ module _ {Kept : Type 0} (keeps : Drawing → Kept) (Reports : Kept → Reportin
     limit = limit;
     never = record {
       base = is.base;
-      rests = is.rests;
+      settles = is.settles;
       cases = is.of_cases.cases;
-      at_rest = is.of_cases.at_rest;
+      are_settled = is.of_cases.are_settled;
       each = is.of_cases.kept;
     };
   }

@@ -10,7 +10,7 @@ use Rattle.skew_algebra.specs.Wave.{Wave}
 use Rattle.flat_circuit.specs.declared.case.CaseValue.{CaseValue}
 use Rattle.flat_circuit.specs.declared.fault.Fault.{Fault}
 use Rattle.flat_circuit.specs.Circuit.{Circuit}
-use Rattle.fixpoint_engine.specs.Rounds.{RestsAt}
+use Rattle.fixpoint_engine.specs.Rounds.{SettlesAt}
 use Rattle.fixpoint_engine.specs.declared.rounds.EngineEnd.{EngineEnd}
 use Rattle.fixpoint_engine.specs.declared.rounds.EngineEnd.TheVariants.{Unsettled, NoMemory}
 use Rattle.case_analysis.specs.Base.{base_round}
@@ -18,16 +18,16 @@ use Rattle.case_analysis.specs.Case.{case_at}
 use Rattle.timing_analysis.specs.Case.{Listed, Case, listed_cases, numbered}
 use Rattle.timing_analysis.specs.Ended.{EndsCase, EndsEarly, by_case}
 use Rattle.timing_analysis.specs.Promise.{IsKept}
-use Rattle.timing_analysis.specs.Rested.{IsCaseAtRest, settled_case}
-use Rattle.timing_analysis.proofs.Cases.{none_at_rest, one_more_at_rest, numbered_here, around_here}
-use Rattle.timing_analysis.proofs.Cases.{first_that_never_rests}
+use Rattle.timing_analysis.specs.Settled.{IsSettledCase, settled_case}
+use Rattle.timing_analysis.proofs.Cases.{none_settled, one_more_settled, numbered_here, around_here}
+use Rattle.timing_analysis.proofs.Cases.{first_that_never_settles}
 use Rattle.program_call.specs.Reporter.{OfCases}
 
 module _ (c : Circuit) (limit base : ℕ) where
   pub of_none : (Holds : List Case → Type 0) → Holds [] → OfCases c limit base [] Holds
   of_none Holds holds = record {
     cases = [];
-    at_rest = none_at_rest c limit base;
+    are_settled = none_settled c limit base;
     kept = All-nil (IsKept c base);
     holds = holds;
   }
@@ -36,15 +36,15 @@ module _ (c : Circuit) (limit base : ℕ) where
   pub of_more : (listed : List Listed) (l : Listed) (Before After : List Case → Type 0)
       (number rounds tick : ℕ)
       (ws : List (Wave Value)) (fs : List Fault) →
-      IsCaseAtRest c limit base l number rounds tick ws fs →
+      IsSettledCase c limit base l number rounds tick ws fs →
       ((cases : List Case) → Before cases → After (cases ++ settled_case l rounds ws ∷ [])) →
       OfCases c limit base listed Before → OfCases c limit base (listed ++ l ∷ []) After
   of_more listed l Before After number rounds tick ws fs is more so_far =
       let case : Case = settled_case l rounds ws in
       record {
         cases = so_far.cases ++ case ∷ [];
-        at_rest = one_more_at_rest c limit base listed l so_far.cases case so_far.at_rest refl
-            is.rest;
+        are_settled = one_more_settled c limit base listed l so_far.cases case so_far.are_settled refl
+            is.settled;
         kept = All-push (IsKept c base) so_far.cases case so_far.kept is.kept;
         holds = more so_far.cases so_far.holds;
       }
@@ -54,7 +54,7 @@ module _ (c : Circuit) (limit base : ℕ) where
       OfCases c limit base listed P → OfCases c limit base listed Q
   of_weaker listed P Q weaker of_cases = record {
     cases = of_cases.cases;
-    at_rest = of_cases.at_rest;
+    are_settled = of_cases.are_settled;
     kept = of_cases.kept;
     holds = weaker of_cases.cases of_cases.holds;
   }
@@ -106,15 +106,15 @@ module _ (cases : List (List CaseValue)) (k : ℕ) (inside : k < length cases) w
 
   -- the case after those is the first that never settles
   pub ends_early : (c : Circuit) (limit base : ℕ) (Holds : List Case → Type 0) (end : EngineEnd) →
-      RestsAt (base_round c) limit base →
+      SettlesAt (base_round c) limit base →
       OfCases c limit base (numbered 1 (take k cases)) Holds → EndsCase c limit base here end →
       EndsEarly c cases limit end
-  ends_early c limit base Holds NoMemory rests so_far ends = tt
-  ends_early c limit base Holds (Unsettled place round) rests so_far ends = (
-    by_case base rests
-        (first_that_never_rests c limit base (numbered 1 (take k cases)) (listed_cases cases)
+  ends_early c limit base Holds NoMemory settles so_far ends = tt
+  ends_early c limit base Holds (Unsettled place round) settles so_far ends = (
+    by_case base settles
+        (first_that_never_settles c limit base (numbered 1 (take k cases)) (listed_cases cases)
         (numbered (k + 1 + 1) (drop (k + 1) cases))
-        here so_far.cases place so_far.at_rest
+        here so_far.cases place so_far.are_settled
         (sym (numbered_here cases k inside (drop (k + 1) cases))
         ∙ ap (numbered 1) (around_here cases k inside) ∙ all_listed cases inside) ends.0),
     ends.1,

@@ -10,12 +10,12 @@ use Rattle.scald_base.specs.declared.outcome.Outcome.TheVariants.{ReadFault, Wri
 use Rattle.drawing_tree.specs.Tree.{Drawing}
 use Rattle.flat_circuit.specs.declared.case.CaseValue.{CaseValue}
 use Rattle.flat_circuit.specs.Circuit.{Circuit}
-use Rattle.fixpoint_engine.specs.Rounds.{RestsAt}
+use Rattle.fixpoint_engine.specs.Rounds.{SettlesAt}
 use Rattle.fixpoint_engine.specs.Start.{default_limit}
 use Rattle.case_analysis.specs.Base.{base_round}
 use Rattle.listing.specs.Answer.{refusal_line, unsettled_line}
 use Rattle.timing_analysis.specs.Drawn.{IsTextRefused, DrawsCircuit}
-use Rattle.timing_analysis.specs.Case.{Case, AreAtRest, listed_cases}
+use Rattle.timing_analysis.specs.Case.{Case, AreSettled, listed_cases}
 use Rattle.timing_analysis.specs.Ended.{StopsEarly}
 
 -- how many rounds there may be: as many as the words allow, or else the circuit's own limit
@@ -36,9 +36,9 @@ Reporting = Circuit → ℕ → List Case → Outcome → List ℕ → Type 0
 pub data Concluded (Reports : Reporting) (c : Circuit) (values : List (List CaseValue))
     (limit : ℕ) :
     Outcome → List ℕ → Type 0 where
-  rested : (base : ℕ) (cases : List Case) (o : Outcome) (bytes : List ℕ) →
-      RestsAt (base_round c) limit base →
-      AreAtRest c limit base (listed_cases values) cases → Reports c base cases o bytes →
+  settled : (base : ℕ) (cases : List Case) (o : Outcome) (bytes : List ℕ) →
+      SettlesAt (base_round c) limit base →
+      AreSettled c limit base (listed_cases values) cases → Reports c base cases o bytes →
       Concluded Reports c values limit o bytes
   unsettled : (place : ℕ) → StopsEarly c values limit place →
       Concluded Reports c values limit (Unsettled place limit) (unsettled_line c place limit)

@@ -5,9 +5,9 @@ use Rattle.drawing_tree.specs.Tree.{Drawing}
 use Rattle.scald_base.specs.declared.outcome.Outcome.{Outcome}
 use Rattle.flat_circuit.specs.declared.case.CaseValue.{CaseValue}
 use Rattle.flat_circuit.specs.Circuit.{Circuit}
-use Rattle.fixpoint_engine.specs.Rounds.{RestsAt}
+use Rattle.fixpoint_engine.specs.Rounds.{SettlesAt}
 use Rattle.case_analysis.specs.Base.{base_round}
-use Rattle.timing_analysis.specs.Case.{Listed, Case, AreAtRest, listed_cases}
+use Rattle.timing_analysis.specs.Case.{Listed, Case, AreSettled, listed_cases}
 use Rattle.timing_analysis.specs.Drawn.{DrawsCircuit}
 use Rattle.timing_analysis.specs.Promise.{IsKept}
 use Rattle.timing_analysis.specs.Subject.{IsSubject}
@@ -26,7 +26,7 @@ pub record IsRead {Kept : Type 0} (keeps : Drawing → Kept) (text : List ℕ) (
 pub record OfCases (c : Circuit) (limit base : ℕ) (listed : List Listed)
     (Holds : List Case → Type 0) : Type 0 where
   pub cases : List Case
-  pub at_rest : AreAtRest c limit base listed cases
+  pub are_settled : AreSettled c limit base listed cases
   pub kept : All (IsKept c base) cases
   pub holds : Holds cases
 
@@ -35,5 +35,5 @@ pub record IsReported (Reports : Reporting) (c : Circuit) (values : List (List C
     (limit : ℕ)
     (o : Outcome) (bytes : List ℕ) : Type 0 where
   pub base : ℕ
-  pub rests : RestsAt (base_round c) limit base
+  pub settles : SettlesAt (base_round c) limit base
   pub of_cases : OfCases c limit base (listed_cases values) (λ cases. Reports c base cases o bytes)

@@ -6,7 +6,7 @@ ghost use Rattle.fixpoint_engine.specs.Table.{AreKnown, waves_at};
 ghost use Rattle.fixpoint_engine.specs.Waves.{FitWaves};
 ghost use Rattle.timing_analysis.specs.Case.{Case, Listed, listed_cases, numbered};
 ghost use Rattle.timing_analysis.specs.Ended.{EndsEarly};
-ghost use Rattle.timing_analysis.specs.Rested.{IsBaseIn, IsCaseIn};
+ghost use Rattle.timing_analysis.specs.Settled.{IsBaseIn, IsCaseIn};
 ghost use Rattle.timing_analysis.specs.Subject.{IsSubject};
 ghost use Rattle.program_call.specs.Reporter.{IsReported, OfCases};
 
@@ -17,7 +17,7 @@ use flat_circuit::Circuit;
 use scald_base::{NoMemory, Outcome};
 use std::alloc::Global;
 use step_values::Value;
-use timing_analysis::{CaseAtRest, Rested, Subject};
+use timing_analysis::{SettledBase, SettledCase, Subject};
 use wave_core::CyclicWave;
 
 /// Reports one case more, whose waves the store has.
@@ -26,7 +26,7 @@ fn add_case<R: Reporter, W: CyclicWave<Item = Value>>(
     circuit: &Circuit,
     place: u32,
     store: &Store<W>,
-    case: &CaseAtRest,
+    case: &SettledCase,
     reporter: &mut R,
 ) -> Result<(), NoMemory>
     requires place { place < 256 }
@@ -53,30 +53,32 @@ fn add_only_case<R: Reporter, W: CyclicWave<Item = Value>>(
     alloc: Global,
     subject: &Subject,
     limit: u32,
-    rested: Rested<W>,
+    settled_base: SettledBase<W>,
     reporter: &mut R,
 ) -> Result<(), NoMemory>
     requires is { IsSubject subject.now }
     requires few { limit ≤ 10000000 }
-    requires rest { IsBaseIn subject.now.circuit limit
-        rested.base.rounds rested.store rested.base.numbers rested.known }
+    requires settled { IsBaseIn subject.now.circuit limit
+        settled_base.base.rounds settled_base.store settled_base.base.numbers settled_base.known }
     requires ready { R.ready reporter.old subject.now.circuit (length subject.now.cases) }
     ensures ready { OnOk result ((cases : ℕ) × R.ready reporter.new subject.now.circuit cases) }
     ensures holds { OnOk result ((asked : R.Asked) (kept : R.Kept) →
-        OfCases subject.now.circuit limit rested.base.rounds (numbered 1 subject.now.cases)
-        (λ (cases : List Case). R.holds reporter.old asked kept subject.now.circuit rested.base.rounds cases) →
-        OfCases subject.now.circuit limit rested.base.rounds (listed_cases subject.now.cases)
-        (λ (cases : List Case). R.holds reporter.new asked kept subject.now.circuit rested.base.rounds cases)) }
+        OfCases subject.now.circuit limit settled_base.base.rounds (numbered 1 subject.now.cases)
+        (λ (cases : List Case). R.holds reporter.old asked kept subject.now.circuit
+        settled_base.base.rounds cases) →
+        OfCases subject.now.circuit limit settled_base.base.rounds (listed_cases subject.now.cases)
+        (λ (cases : List Case). R.holds reporter.new asked kept subject.now.circuit
+        settled_base.base.rounds cases)) }
 {
     if !subject.cases.is_empty() {
         return Ok(());
     }
-    let (store, case) = rested.only_case(alloc, subject, limit)?;
+    let (store, case) = settled_base.only_case(alloc, subject, limit)?;
     add_case(alloc, &subject.circuit, 0, &store, &case, reporter)
 }
 
-/// What is reported of a circuit and its cases, or the end of the base or of the first case that never
-/// settles within so many rounds.
+/// What is reported of a circuit and its cases, or the end of the base or of the first case that
+/// never settles within so many rounds.
 pub(crate) fn report_cases<R: Reporter, W: CyclicWave<Item = Value>>(
     alloc: Global,
     subject: &Subject,
@@ -90,19 +92,25 @@ pub(crate) fn report_cases<R: Reporter, W: CyclicWave<Item = Value>>(
         subject.now.circuit subject.now.cases limit reply.outcome reply.bytes) }
     ensures ended { IfErr result (EndsEarly subject.now.circuit subject.now.cases limit) }
 {
-    let mut rested = subject.base::<W>(alloc, limit)?;
-    let mut reporter = R::begin(alloc, asked, kept, &subject.circuit, rested.base.rounds)?;
+    let mut settled_base = subject.base::<W>(alloc, limit)?;
+    let mut reporter = R::begin(
+        alloc,
+        asked,
+        kept,
+        &subject.circuit,
+        settled_base.base.rounds,
+    )?;
     for place in 0..subject.cases.len() as u32 {
-        let case = subject.case(alloc, &mut rested, place, limit)?;
+        let case = subject.case(alloc, &mut settled_base, place, limit)?;
         add_case(
             alloc,
             &subject.circuit,
             place,
-            &rested.store,
+            &settled_base.store,
             &case,
             &mut reporter,
         )?;
     }
-    add_only_case(alloc, subject, limit, rested, &mut reporter)?;
+    add_only_case(alloc, subject, limit, settled_base, &mut reporter)?;
     Ok(reporter.end(alloc, &subject.circuit)?)
 }

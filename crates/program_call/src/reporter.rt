@@ -6,7 +6,7 @@ ghost use Rattle.drawing_tree.specs.WellFormed.{IsWellFormed};
 ghost use Rattle.flat_circuit.specs.Circuit.{Circuit as Flat};
 ghost use Rattle.fixpoint_engine.specs.Waves.{FitWaves};
 ghost use Rattle.timing_analysis.specs.Case.{Case, Listed};
-ghost use Rattle.timing_analysis.specs.Rested.{IsCaseAtRest, settled_case};
+ghost use Rattle.timing_analysis.specs.Settled.{IsSettledCase, settled_case};
 ghost use Rattle.program_call.specs.Answer.{Reporting};
 
 use crate::Reply;
@@ -16,11 +16,11 @@ use flat_circuit::Circuit;
 use scald_base::{NoMemory, Outcome};
 use std::alloc::Global;
 use step_values::Value;
-use timing_analysis::CaseAtRest;
+use timing_analysis::SettledCase;
 use wave_core::CyclicWave;
 
-/// What reports on a circuit, case by case. Of a drawing and of a case only what the report needs is
-/// kept: the circuit may take the room of the one, and the next case that of the other's waves.
+/// What reports on a circuit, case by case. Of a drawing and of a case only what the report needs
+/// is kept: the circuit may take the room of the one, and the next case that of the other's waves.
 pub trait Reporter: Sized + Drop {
     /// What the words ask for beside the report.
     type Asked: Copy;
@@ -63,7 +63,7 @@ pub trait Reporter: Sized + Drop {
         alloc: Global,
         circuit: &Circuit,
         place: u32,
-        case: &CaseAtRest,
+        case: &SettledCase,
         waves: &Waves<W>,
     ) -> Result<(), NoMemory>
         requires place { place < 256 }
@@ -73,15 +73,17 @@ pub trait Reporter: Sized + Drop {
         ensures ready { OnOk result (ready self.new circuit.now (place + 1)) }
         ensures holds { OnOk result ((asked : Self.Asked) (kept : Self.Kept) (limit base : ℕ)
             (listed : Listed) (cases : List Case) →
-            IsCaseAtRest circuit.now limit base listed case.now.number case.now.settled.rounds
-            case.now.tick waves.now case.now.faults → holds self.old asked kept circuit.now base cases →
+            IsSettledCase circuit.now limit base listed case.now.number case.now.settled.rounds
+            case.now.tick waves.now case.now.faults →
+            holds self.old asked kept circuit.now base cases →
             holds self.new asked kept circuit.now base
             (cases ++ settled_case listed case.now.settled.rounds waves.now ∷ [])) };
 
     /// What is replied after all cases.
     fn end(self, alloc: Global, circuit: &Circuit) -> Result<Reply<Outcome>, NoMemory>
         requires { (cases : ℕ) × ready self circuit.now cases }
-        ensures { IfOk result (λ reply. (asked : Self.Asked) (kept : Self.Kept) (base : ℕ) (cases : List Case) →
+        ensures { IfOk result (λ reply.
+            (asked : Self.Asked) (kept : Self.Kept) (base : ℕ) (cases : List Case) →
             holds self asked kept circuit.now base cases →
             reports asked kept circuit.now base cases reply.outcome reply.bytes) };
 }

@@ -20,7 +20,7 @@ use Rattle.scald_tool.specs.Answer as answer
 use Rattle.scald_tool.specs.Answer.{Measured, Replied, Reported}
 use Rattle.scald_tool.specs.Promise.{IsAnswered}
 use Rattle.scald_tool.specs.Report.{report}
-use Rattle.scald_tool.specs.Finished.{ComesToRest, Passes, formatted, upgraded, verified, benched}
+use Rattle.scald_tool.specs.Finished.{TextSettles, Passes, formatted, upgraded, verified, benched}
 use Rattle.scald_tool.specs.Finished.{IsFinished, AsksWell}
 
 verdict_finished : (n : ℕ) → is_finished (verdict_of n) ≡ true
@@ -37,29 +37,29 @@ pub record Finishes (command : Command) (text : List ℕ) : Type 0 where
   pub is : Replied command text outcome bytes
   pub finished : is_finished outcome ≡ true
 
-rest_is_evaluated : (Reports : Drawing → Reporting) (rounds : Option ℕ) (text : List ℕ)
-    (rest : ComesToRest rounds text) (o : Outcome)
-    (bytes : List ℕ) → Reports rest.drawn.drawing rest.circuit rest.base rest.cases o bytes →
+settled_is_evaluated : (Reports : Drawing → Reporting) (rounds : Option ℕ) (text : List ℕ)
+    (settles : TextSettles rounds text) (o : Outcome)
+    (bytes : List ℕ) → Reports settles.drawn.drawing settles.circuit settles.base settles.cases o bytes →
     Evaluated Reports rounds text o bytes
-rest_is_evaluated Reports rounds text rest o bytes is =
-    evaluation.judged rest.circuit rest.values o bytes rest.drawn
-    (evaluation.rested rest.base rest.cases o bytes rest.rests rest.at_rest is)
+settled_is_evaluated Reports rounds text settles o bytes is =
+    evaluation.judged settles.circuit settles.values o bytes settles.drawn
+    (evaluation.settled settles.base settles.cases o bytes settles.settles settles.are_settled is)
 
 finishes : (text : List ℕ) (command : Command) → Passes text command → Finishes command text
 finishes text _ (formatted d draws) = record { outcome = Done; bytes = canonical d; is = answer.drawn d draws; finished = refl }
 finishes text _ (upgraded d draws) = record { outcome = Done; bytes = upgraded_text d; is = answer.readable d draws; finished = refl }
-finishes text _ (verified mode rounds rest) = record {
-  outcome = verdict_of (fault_count rest.circuit rest.cases);
-  bytes = report mode rest.drawn.drawing.version rest.circuit rest.base rest.cases;
-  is = rest_is_evaluated (λ d. Reported mode d.version) rounds text rest _ _
+finishes text _ (verified mode rounds settles) = record {
+  outcome = verdict_of (fault_count settles.circuit settles.cases);
+  bytes = report mode settles.drawn.drawing.version settles.circuit settles.base settles.cases;
+  is = settled_is_evaluated (λ d. Reported mode d.version) rounds text settles _ _
       (record { outcome = refl; text = refl });
-  finished = verdict_finished (fault_count rest.circuit rest.cases);
+  finished = verdict_finished (fault_count settles.circuit settles.cases);
 }
-finishes text _ (benched sections rest) = record {
+finishes text _ (benched sections settles) = record {
   outcome = Done;
-  bytes = summary_line rest.circuit sections rest.base (tick (reach rest.circuit) rest.base 0)
-      (fault_count rest.circuit rest.cases);
-  is = rest_is_evaluated (λ d. Measured sections) None (datapath sections) rest _ _
+  bytes = summary_line settles.circuit sections settles.base (tick (reach settles.circuit) settles.base 0)
+      (fault_count settles.circuit settles.cases);
+  is = settled_is_evaluated (λ d. Measured sections) None (datapath sections) settles _ _
       (record { outcome = refl; text = refl });
   finished = refl;
 }

@@ -10,28 +10,28 @@ use Rattle.scald_base.specs.declared.outcome.Outcome.TheVariants.{Clean}
 use Rattle.timing_analysis.specs.Drawn.{DrawsCircuit}
 use Rattle.timing_analysis.specs.Case.{Case, fault_count, listed_cases}
 use Rattle.program_call.specs.Answer as answer
-use Rattle.program_call.specs.Answer.{Concluded, limit_for, rested, unsettled}
+use Rattle.program_call.specs.Answer.{Concluded, limit_for, settled, unsettled}
 use Rattle.scald_tool.specs.Answer.{Reported, Verified}
 use Rattle.timing_analysis.specs.Promise.{FaultlessNeverBreaks, IsKept, IsSafe, IsUnbroken}
 use Rattle.timing_analysis.specs.Promise.{NeverBreaks}
 use Rattle.scald_tool.specs.Promise.{has_report}
 use Rattle.scald_tool.specs.Laws.{ReportsArePromised}
 use Rattle.timing_analysis.proofs.Headline.{faultless_is_safe}
-use Rattle.timing_analysis.proofs.OneRest.{rest_in_one_way}
+use Rattle.timing_analysis.proofs.SettlesOneWay.{settles_in_one_way}
 use Rattle.timing_analysis.proofs.OneText.{text_draws_one_circuit}
 use Rattle.scald_tool.proofs.Verdict.{verdict_clean}
 
--- The report on a circuit is that of the base and the cases at rest, whatever is said to hold of these.
+-- The report on a circuit is that of the settled base and cases, whatever is said to hold of these.
 concluded_report : (mode : Mode) (version : ℕ) (c : Circuit) (values : List (List CaseValue))
     (limit limit' : ℕ) (o : Outcome)
     (bytes : List ℕ) (holds : ℕ → Case → Type 0) →
     Concluded (Reported mode version) c values limit o bytes → has_report o ≡ true →
     (safe : IsSafe c values limit' holds) → Reported mode version c safe.base safe.cases o bytes
 concluded_report mode version c values limit limit' _ _ holds
-    (rested base cases o bytes rests at_rest is) has safe =
+    (settled base cases o bytes settles are_settled is) has safe =
     let one =
-    rest_in_one_way c limit limit' base safe.base (listed_cases values) cases safe.cases rests at_rest
-    safe.rests safe.at_rest in
+    settles_in_one_way c limit limit' base safe.base (listed_cases values) cases safe.cases settles are_settled
+    safe.settles safe.are_settled in
     subst (λ (b : ℕ). Reported mode version c b safe.cases o bytes) one.0
     (subst (λ (cs : List Case). Reported mode version c base cs o bytes) one.1 is)
 concluded_report mode version c values limit limit' _ _ holds (unsettled place stops) has safe =

@@ -11,7 +11,7 @@ use Rattle.scald_tool.specs.declared.words.Command.{Command}
 use Rattle.scald_tool.specs.declared.words.Command.TheVariants.{Verify, Format, Upgrade, Bench}
 use Rattle.scald_tool.specs.Words.{command_of, reads}
 use Rattle.scald_tool.specs.Answer.{most_bytes, verifier}
-use Rattle.scald_tool.specs.Promise.{AreTold, RestsWithoutLoops, has_report, may_give, may_answer}
+use Rattle.scald_tool.specs.Promise.{AreTold, SettlesWithoutLoops, has_report, may_give, may_answer}
 use Rattle.scald_tool.specs.Promise.{speaks, unlimited}
 use Rattle.scald_tool.specs.Kept.{IsPromised}
 use Rattle.scald_tool.proofs.OneAnswer.{verifier_lawful}
@@ -78,7 +78,7 @@ module _ (words : List (List ℕ)) (left left' taken taken' : Option (List ℕ))
   unlimited_by (Bench n) read text same = refl
 
   pub loopless : (text : List ℕ) → AreTold words left text → (speaks o ≡ true → IsWritten) →
-      RestsWithoutLoops words text o
+      SettlesWithoutLoops words text o
   loopless text told replied = λ k evaluated place round asked free less still.
       let r : IsWritten = replied (ap speaks still) in
       let one : k ≡ r.reply.command = cc (r.reply.form, asked) in

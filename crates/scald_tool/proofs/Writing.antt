@@ -15,7 +15,7 @@ use Rattle.listing.specs.Head.{head}
 use Rattle.listing.specs.Case.{case_lines}
 use Rattle.listing.specs.End.{last_line}
 use Rattle.timing_analysis.specs.Case.{Listed, Case, faults}
-use Rattle.timing_analysis.specs.Rested.{IsCaseAtRest, settled_case}
+use Rattle.timing_analysis.specs.Settled.{IsSettledCase, settled_case}
 use Rattle.scald_base.specs.declared.outcome.Outcome.{Outcome}
 use Rattle.program_call.specs.Answer.{verdict_of}
 use Rattle.scald_tool.specs.declared.report.Report.{Report}
@@ -40,7 +40,7 @@ module _ (mode : Mode) (version : ℕ) (c : Circuit) (base : ℕ) where
   -- A settled case is in the report when its lines are written and its faults counted.
   pub has_more : (report after : Report) (limit : ℕ) (l : Listed) (number rounds tick : ℕ)
       (ws : List (Wave Value)) (fs : List Fault)
-      (cases : List Case) → IsCaseAtRest c limit base l number rounds tick ws fs →
+      (cases : List Case) → IsSettledCase c limit base l number rounds tick ws fs →
       after.mode ≡ report.mode → after.base ≡ report.base →
       after.bytes ≡ report.bytes ++ case_lines c report.mode number report.base rounds tick
       (waves_of ws) fs →

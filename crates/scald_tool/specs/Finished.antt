@@ -1,10 +1,10 @@
--- Which texts have an answer that is neither a refusal nor a net that does not rest.
+-- Which texts have an answer that is neither a refusal nor a net that does not settle.
 use Rattle.std.specs.Prelude.{◌≡◌, ℕ, ◌≤◌, true, List, length, Option, None, Ok}
 use Rattle.drawing_tree.specs.Tree.{Drawing}
 use Rattle.drawing_grammar.specs.CanonicalDraws.{TextDraws}
 use Rattle.flat_circuit.specs.declared.case.CaseValue.{CaseValue}
 use Rattle.flat_circuit.specs.Circuit.{Circuit}
-use Rattle.fixpoint_engine.specs.Rounds.{RestsAt}
+use Rattle.fixpoint_engine.specs.Rounds.{SettlesAt}
 use Rattle.case_analysis.specs.Base.{base_round}
 use Rattle.design_gen.specs.Datapath.{datapath}
 use Rattle.listing.specs.declared.case.Mode.{Mode}
@@ -13,33 +13,35 @@ use Rattle.scald_tool.specs.declared.words.Command.{Command}
 use Rattle.scald_tool.specs.declared.words.Command.TheVariants.{Verify, Format, Upgrade, Bench}
 use Rattle.scald_tool.specs.Words.{command_of, reads}
 use Rattle.timing_analysis.specs.Drawn.{DrawsCircuit}
-use Rattle.timing_analysis.specs.Case.{Case, AreAtRest, listed_cases}
+use Rattle.timing_analysis.specs.Case.{Case, AreSettled, listed_cases}
 use Rattle.program_call.specs.Answer.{is_finished, limit_for}
 use Rattle.scald_tool.specs.Answer.{most_bytes}
 use Rattle.scald_tool.specs.Promise.{IsAnswered}
 
--- The text draws a circuit, and nothing of it is refused; its base and each of its cases settle, within this limit where
--- one is given, and else within the circuit's own.
-pub record ComesToRest (rounds : Option ℕ) (text : List ℕ) : Type 0 where
+-- The text draws a circuit, and nothing of it is refused; its base and each of its cases settle,
+-- within this limit where one is given, and else within the circuit's own.
+pub record TextSettles (rounds : Option ℕ) (text : List ℕ) : Type 0 where
   pub circuit : Circuit
   pub values : List (List CaseValue)
   pub drawn : DrawsCircuit text circuit values
   pub base : ℕ
-  pub rests : RestsAt (base_round circuit) (limit_for circuit rounds) base
+  pub settles : SettlesAt (base_round circuit) (limit_for circuit rounds) base
   pub cases : List Case
-  pub at_rest : AreAtRest circuit (limit_for circuit rounds) base (listed_cases values) cases
+  pub are_settled : AreSettled circuit (limit_for circuit rounds) base (listed_cases values) cases
 
--- The text passes every stage of a form: for `format` and `upgrade` it draws a drawing, for `verify` it settles, and for `bench` the
--- generated drawing does, whatever the text is.
+-- The text passes every stage of a form: for `format` and `upgrade` it draws a drawing, for
+-- `verify` it settles, and for `bench` the generated drawing does, whatever the text is.
 pub data Passes (text : List ℕ) : Command → Type 0 where
   formatted : (d : Drawing) → TextDraws text d → Passes text Format
   upgraded : (d : Drawing) → TextDraws text d → Passes text Upgrade
-  verified : (mode : Mode) (rounds : Option ℕ) → ComesToRest rounds text → Passes text (Verify mode rounds)
-  benched : (sections : ℕ) → ComesToRest None (datapath sections) → Passes text (Bench sections)
+  verified : (mode : Mode) (rounds : Option ℕ) → TextSettles rounds text →
+      Passes text (Verify mode rounds)
+  benched : (sections : ℕ) → TextSettles None (datapath sections) → Passes text (Bench sections)
 
--- To words of a form, and a text that is not too long where the form reads and that passes every stage, the answer is the one
--- that they have, with exactly its bytes, and it is finished.
-abbrev pub IsFinished : List (List ℕ) → List ℕ → Outcome → Option (List ℕ) → Option (List ℕ) → Type 0
+-- To words of a form, and a text that is not too long where the form reads and that passes every
+-- stage, the answer is the one that they have, with exactly its bytes, and it is finished.
+abbrev pub IsFinished : List (List ℕ) → List ℕ → Outcome → Option (List ℕ) → Option (List ℕ) →
+    Type 0
 IsFinished words text o taken taken' = IsAnswered words text o taken taken' × (is_finished o ≡ true)
 
 -- the words are of a form, and the text passes every stage of it

@@ -13,11 +13,14 @@ OneAnswer =
     (words : List (List ℕ)) (text : List ℕ) (o o' : Outcome) (bytes bytes' : List ℕ) →
     Answer words text o bytes → Answer words text o' bytes' → (o ≡ o') × (bytes ≡ bytes')
 
--- The report that is printed is that of the circuit, the base and the cases at rest that a promise speaks of. So the numbers
--- of each case in it, its base, rounds and tick, are those of the promise.
+-- The report that is printed is that of the circuit, the settled base and cases that a promise
+-- speaks of. So the numbers of each case in it, its base, rounds and tick, are those of the
+-- promise.
 abbrev pub ReportsArePromised : Type 0
 ReportsArePromised =
     (mode : Mode) (rounds : Option ℕ) (text : List ℕ) (o : Outcome) (bytes : List ℕ) →
     Verified mode rounds text o bytes → has_report o ≡ true →
-    ((p : NeverBreaks text) → bytes ≡ report mode p.drawn.drawing.version p.circuit p.never.base p.never.cases)
-    × ((p : FaultlessNeverBreaks text) → bytes ≡ report mode p.drawn.drawing.version p.circuit p.never.base p.never.cases)
+    ((p : NeverBreaks text) → bytes
+    ≡ report mode p.drawn.drawing.version p.circuit p.never.base p.never.cases)
+    × ((p : FaultlessNeverBreaks text) →
+    bytes ≡ report mode p.drawn.drawing.version p.circuit p.never.base p.never.cases)

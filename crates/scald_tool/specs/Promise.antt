@@ -13,24 +13,28 @@ use Rattle.scald_tool.specs.Answer.{Verified, verifier}
 
 -- ---- the answer
 
--- What the words are answered to: the bytes that the source has left, where it tells them; and any bytes where the words are
--- of no form that reads, since then the answer is the same to all.
+-- What the words are answered to: the bytes that the source has left, where it tells them; and any
+-- bytes where the words are of no form that reads, since then the answer is the same to all.
 abbrev pub AreTold : List (List ℕ) → Option (List ℕ) → List ℕ → Type 0
 AreTold = program.AreTold verifier
 
 -- The outcome is the one that the words and the text have, and the sink took exactly its bytes.
-abbrev pub IsAnswered : List (List ℕ) → List ℕ → Outcome → Option (List ℕ) → Option (List ℕ) → Type 0
+abbrev pub IsAnswered : List (List ℕ) → List ℕ → Outcome → Option (List ℕ) → Option (List ℕ) →
+    Type 0
 IsAnswered = program.IsAnswered verifier
 
--- The outcome is the one that `verify` has for the text, in this mode and with this limit, and what was there is followed by
--- exactly its bytes.
-pub record IsVerified (mode : Mode) (rounds : Option ℕ) (text : List ℕ) (o : Outcome) (before after : List ℕ) : Type 0 where
+-- The outcome is the one that `verify` has for the text, in this mode and with this limit, and what
+-- was there is followed by exactly its bytes.
+pub record IsVerified (mode : Mode) (rounds : Option ℕ) (text : List ℕ) (o : Outcome)
+    (before after : List ℕ) : Type 0 where
   pub bytes : List ℕ
   pub is : Verified mode rounds text o bytes
-  pub only : (p : Outcome) (others : List ℕ) → Verified mode rounds text p others → (p ≡ o) × (others ≡ bytes)
+  pub only : (p : Outcome) (others : List ℕ) → Verified mode rounds text p others →
+      (p ≡ o) × (others ≡ bytes)
   pub put : after ≡ before ++ bytes
 
--- an outcome that says something of the text, all of which was read and all of whose answer was written
+-- an outcome that says something of the text, all of which was read and all of whose answer was
+-- written
 abbrev pub speaks : Outcome → Bool
 speaks = program.speaks verifier
 
@@ -69,8 +73,9 @@ evaluates Format = false
 evaluates Upgrade = false
 evaluates (Bench sections) = true
 
--- Which outcomes a form has whose answer is written. Only `verify` judges a drawing by its faults, and only the others are
--- done with it. Each form may refuse its text, and what is evaluated may not rest.
+-- Which outcomes a form has whose answer is written. Only `verify` judges a drawing by its faults,
+-- and only the others are done with it. Each form may refuse its text, and what is evaluated may
+-- not settle.
 abbrev pub may_give : Command → Outcome → Bool
 may_give command Clean = asks_verify command
 may_give command (Faulty n) = asks_verify command
@@ -95,8 +100,9 @@ unlimited Format text = None
 unlimited Upgrade text = None
 unlimited (Bench sections) text = Some (datapath sections)
 
--- Where the words set no limit, and the circuit of the text that is evaluated has no loop through listening pins, its waves
--- settle.
-abbrev pub RestsWithoutLoops : List (List ℕ) → List ℕ → Outcome → Type 0
-RestsWithoutLoops words text o =
-    (command : Command) (evaluated : List ℕ) (place round : ℕ) → command_of words ≡ Ok command → unlimited command text ≡ Some evaluated → IsLoopless evaluated → o ≢ Unsettled place round
+-- Where the words set no limit, and the circuit of the text that is evaluated has no loop through
+-- listening pins, its waves settle.
+abbrev pub SettlesWithoutLoops : List (List ℕ) → List ℕ → Outcome → Type 0
+SettlesWithoutLoops words text o =
+    (command : Command) (evaluated : List ℕ) (place round : ℕ) → command_of words ≡ Ok command →
+    unlimited command text ≡ Some evaluated → IsLoopless evaluated → o ≢ Unsettled place round

@@ -14,11 +14,11 @@ use run_wave::RunWave;
 use scald_base::{Bytes, NoMemory, Outcome};
 use std::alloc::Global;
 use step_values::Value;
-use timing_analysis::CaseAtRest;
+use timing_analysis::SettledCase;
 use wave_core::CyclicWave;
 
-/// The numbers of the report on the generated drawing of so many sections, at its own limit of rounds;
-/// or, as `verify` has it, why that is refused or which net does not settle.
+/// The numbers of the report on the generated drawing of so many sections, at its own limit of
+/// rounds; or, as `verify` has it, why that is refused or which net does not settle.
 pub fn bench(alloc: Global, sections: u16) -> Result<Reply<Outcome>, NoMemory>
     ensures { IfOk result (λ reply. Benched sections reply.outcome reply.bytes) }
 {
@@ -26,8 +26,8 @@ pub fn bench(alloc: Global, sections: u16) -> Result<Reply<Outcome>, NoMemory>
     reply_to::<Numbers, RunWave<Value>>(alloc, text.as_slice(), sections, None, &mut 0)
 }
 
-/// How many sections a drawing has, the round in which its base settled, and how many faults the cases
-/// so far have.
+/// How many sections a drawing has, the round in which its base settled, and how many faults the
+/// cases so far have.
 #[derive(Drop)]
 pub struct Numbers {
     pub sections: u16,
@@ -49,9 +49,11 @@ impl Reporter for Numbers {
     ghost reports = { λ sections kept. Measured sections };
 
     ghost holds = { λ numbers sections kept c base cases.
-        (numbers.sections ≡ sections) × (numbers.base ≡ base) × (numbers.total ≡ fault_count c cases) };
+        (numbers.sections ≡ sections) × (numbers.base ≡ base)
+        × (numbers.total ≡ fault_count c cases) };
 
-    ghost ready = { λ numbers c cases. (numbers.total ≤ cases * 458752) × (numbers.base ≤ 10000000) };
+    ghost ready = { λ numbers c cases. (numbers.total ≤ cases * 458752)
+        × (numbers.base ≤ 10000000) };
 
     fn keep(_alloc: Global, _drawing: &Drawing) -> Result<(), NoMemory> {
         Ok(())
@@ -76,7 +78,7 @@ impl Reporter for Numbers {
         _alloc: Global,
         _circuit: &Circuit,
         _place: u32,
-        case: &CaseAtRest,
+        case: &SettledCase,
         _waves: &Waves<W>,
     ) -> Result<(), NoMemory> {
         self.total += case.faults.len() as u32;

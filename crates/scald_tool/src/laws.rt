@@ -10,8 +10,8 @@ use crate::tool::tool_main;
 use scald_base::{CountSink, Outcome, SureSource, Words};
 use std::alloc::Global;
 
-/// Words are read as the form that has them, or as unrecognised from the first word with which no form
-/// continues; and the words of each form are read as it.
+/// Words are read as the form that has them, or as unrecognised from the first word with which no
+/// form continues; and the words of each form are read as it.
 pub fn words_are_read_by_their_form()
     ensures read { WordsAreRead }
     ensures known { WordsAreKnown }
@@ -22,15 +22,15 @@ pub fn words_have_one_answer()
     ensures { OneAnswer }
 {}
 
-/// A report is that of the circuit, the base and the cases at rest which the promises of its text speak of:
-/// rounds rest once, and a case has one end.
+/// A report is that of the circuit, the settled base and cases which the promises of its text speak
+/// of: rounds settle once, and a case has one end.
 pub fn reports_are_promised()
     ensures { ReportsArePromised }
 {}
 
-/// The whole call over devices that never fail, of which nothing is asked: the answer is the one that the
-/// words and the bytes of the source have, or no memory. It is a report or what else was asked for where the
-/// words are of a form and the text passes every stage of it.
+/// The whole call over devices that never fail, of which nothing is asked: the answer is the one
+/// that the words and the bytes of the source have, or no memory. It is a report or what else was
+/// asked for where the words are of a form and the text passes every stage of it.
 pub fn answers_over_sure_devices(
     alloc: Global,
     words: &Words,

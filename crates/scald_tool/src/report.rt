@@ -10,7 +10,7 @@ use program_call::{Reply, Reporter, verdict};
 use scald_base::{Bytes, NoMemory, Outcome};
 use std::alloc::Global;
 use step_values::Value;
-use timing_analysis::CaseAtRest;
+use timing_analysis::SettledCase;
 use wave_core::CyclicWave;
 
 /// The lines of a report so far, and how many faults the cases in it have.
@@ -67,7 +67,7 @@ impl Reporter for Report {
         _alloc: Global,
         circuit: &Circuit,
         _place: u32,
-        case: &CaseAtRest,
+        case: &SettledCase,
         waves: &Waves<W>,
     ) -> Result<(), NoMemory> {
         let head = CaseHead {

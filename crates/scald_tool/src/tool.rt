@@ -8,22 +8,23 @@ ghost use Rattle.scald_tool.specs.Answer.{verifier};
 ghost use Rattle.scald_tool.specs.Kept.{IsPromised};
 ghost use Rattle.scald_tool.specs.Finished.{AsksWell, IsFinished};
 ghost use Rattle.timing_analysis.specs.Promise.{FaultlessNeverBreaks, NeverBreaks};
-ghost use Rattle.scald_tool.specs.Promise.{AreTold, RestsWithoutLoops, has_report, may_answer, speaks};
+ghost use Rattle.scald_tool.specs.Promise.{AreTold, SettlesWithoutLoops, has_report, may_answer, speaks};
 
 use crate::verifier::Verifier;
 use program_call::main_call;
 use scald_base::{Outcome, Sink, Source, Words};
 use std::alloc::Global;
 
-/// Answers what the words ask for and writes it to the sink: the report on the drawing that the source
-/// gives, or its canonical text, or that of the same circuit in the last version of the language, or the
-/// numbers of the report on a generated drawing.
+/// Answers what the words ask for and writes it to the sink: the report on the drawing that the
+/// source gives, or its canonical text, or that of the same circuit in the last version of the
+/// language, or the numbers of the report on a generated drawing.
 ///
-/// Where the words are of a form that reads, the source is read to its end, or to the first byte past
-/// 4,194,304, or to its first fault. All of the answer is made before the first byte of it is written.
+/// Where the words are of a form that reads, the source is read to its end, or to the first byte
+/// past 4,194,304, or to its first fault. All of the answer is made before the first byte of it is
+/// written.
 ///
-/// Where a report was written, `undriven` is how many nets have neither a driver nor an assertion, and are
-/// set by no case; nothing is proved of it.
+/// Where a report was written, `undriven` is how many nets have neither a driver nor an assertion,
+/// and are set by no case; nothing is proved of it.
 pub fn tool_main<S: Source, K: Sink>(
     alloc: Global,
     words: &Words,
@@ -35,23 +36,27 @@ pub fn tool_main<S: Source, K: Sink>(
     ensures call { IsCall verifier IsPromised words.now result
         (devices S.left S.faults K.taken K.faults) source.old source.new sink.old sink.new }
 
-    // If the source tells its bytes and no device fails, a text that passes every stage that the words ask
-    // for gets what they ask for.
+    // If the source tells its bytes and no device fails, a text that passes every stage that the
+    // words ask for gets what they ask for.
     ensures finished { (text : List ℕ) → AreTold words.now (S.left source.old) text →
-        (are_reading (command_of words.now) ≡ true → ¬ Rose (S.faults source.old) (S.faults source.new)) →
+        (are_reading (command_of words.now) ≡ true →
+        ¬ Rose (S.faults source.old) (S.faults source.new)) →
         ¬ Rose (K.faults sink.old) (K.faults sink.new) →
         AsksWell words.now text →
-        (result ≡ Outcome.NoMemory) ⊎ IsFinished words.now text result (K.taken sink.old) (K.taken sink.new) }
+        (result ≡ Outcome.NoMemory) ⊎ IsFinished words.now text result (K.taken sink.old)
+        (K.taken sink.new) }
 
-    // No other form judges a drawing than `verify`, and it alone is never done with one. Waves without
-    // loops settle if the words set no limit.
+    // No other form judges a drawing than `verify`, and it alone is never done with one. Waves
+    // without loops settle if the words set no limit.
     ensures given { speaks result ≡ true → may_answer (command_of words.now) result ≡ true }
     ensures loopless { (text : List ℕ) → AreTold words.now (S.left source.old) text →
-        RestsWithoutLoops words.now text result }
+        SettlesWithoutLoops words.now text result }
 
-    // No fault, no break: in every run of the circuit that the text draws, from the printed tick on.
+    // No fault, no break: in every run of the circuit that the text draws, from the printed tick
+    // on.
     ensures clean { IfSome (S.left source.old) (λ text. result ≡ Outcome.Clean → NeverBreaks text) }
-    ensures faultless { IfSome (S.left source.old) (λ text. has_report result ≡ true → FaultlessNeverBreaks text) }
+    ensures faultless { IfSome (S.left source.old) (λ text. has_report result ≡ true →
+        FaultlessNeverBreaks text) }
 {
     main_call::<Verifier, S, K>(alloc, words, source, sink, undriven)
 }

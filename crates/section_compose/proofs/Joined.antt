@@ -27,9 +27,9 @@ use Rattle.section_compose.specs.Joined.{AreJoined, IsDrivenBy}
 use Rattle.section_compose.specs.OneNet.{AreOneNet, IsNetOf}
 use Rattle.section_compose.specs.Whole.{CrossingsKeep, IsRunOfWhole, KeepsOn, NeverBreaksWhole, bits_of}
 use Rattle.section_compose.proofs.Across.{InputsKeep}
-use Rattle.section_compose.proofs.Ahead.{rest_long, rest_permits, step_ahead}
+use Rattle.section_compose.proofs.Ahead.{settling_long, settling_permits, step_ahead}
 use Rattle.section_compose.proofs.Clocks.{keeps_same}
-use Rattle.section_compose.proofs.Facts.{RestsClean}
+use Rattle.section_compose.proofs.Facts.{SettlesClean}
 
 -- ---- lists without faults
 
@@ -41,7 +41,7 @@ back_none : {A : Type 0} (xs ys : List A) → xs ++ ys ≡ [] → ys ≡ []
 back_none [] ys none = none
 back_none (x ∷ xs) ys none = absurd (cc)
 
--- the waves at rest hold a reach before the printed tick
+-- the settled waves hold a reach before the printed tick
 printed_far : (rounds n T : ℕ) → (rounds + 0 + 1) * n ≤ T → rounds * n + 1 + n ≤ T + 1
 printed_far rounds n T sooner = omega (arith, sooner)
 
@@ -74,7 +74,7 @@ run_of (first ∷ whole) (run ∷ runs) (suc s) c long is = run_of whole runs s 
 module _ (whole : List Circuit) (T : ℕ) (joined : AreJoined whole)
     (known : (s : ℕ) (c : Circuit) → slice_get whole s ≡ Some c → IsCircuit c)
     (some : (s : ℕ) (c : Circuit) → slice_get whole s ≡ Some c → 0 < period c.header)
-    (rests : (s : ℕ) (c : Circuit) → slice_get whole s ≡ Some c → RestsClean whole T c) where
+    (settlings : (s : ℕ) (c : Circuit) → slice_get whole s ≡ Some c → SettlesClean whole T c) where
   module _ (runs : List Run) (ticks : ℕ) (is : IsRunOfWhole whole runs ticks)
       (early : (t : ℕ) → 1 ≤ t → t ≤ T → t < ticks → CrossingsKeep whole runs t) where
     -- at all ticks before one, the nets that cross keep their assertions
@@ -97,26 +97,26 @@ module _ (whole : List Circuit) (T : ℕ) (joined : AreJoined whole)
     no_faults c ws none = (front_none (point_faults c ws) (width_faults c ws) none, back_none (point_faults c ws) (width_faults c ws) none)
 
     constraints : (s : ℕ) (c : Circuit) (run : Run) (at : slice_get whole s ≡ Some c) → slice_get runs s ≡ Some run →
-        KeepsConstraints c (rests s c at).rest.waves []
+        KeepsConstraints c (settlings s c at).settling.waves []
     constraints s c run at run_at =
-        let r = rests s c at in
-        keeps_constraints c r.rest.waves [] (some s c at) (known s c at)
-        (rest_long whole c r.rest run (known s c at) (some s c at) (is.each s c run at run_at) r.at)
-        (sym (no_faults c r.rest.waves r.clean).0)
+        let r = settlings s c at in
+        keeps_constraints c r.settling.waves [] (some s c at) (known s c at)
+        (settling_long whole c r.settling run (known s c at) (some s c at) (is.each s c run at run_at) r.at)
+        (sym (no_faults c r.settling.waves r.clean).0)
 
     -- One tick: what keeps its assertion before it keeps it there.
     step : (t : ℕ) → T < t → t < ticks → KeptBefore t → CrossingsKeep whole runs t
     step t past inside before s i c net run of run_at crossing =
         let d : IsDrivenBy whole net = joined.driver s i c net of crossing in
         let found = run_of whole runs d.s d.circuit is.sections d.is.section_is in
-        let r = rests d.s d.circuit d.is.section_is in
+        let r = settlings d.s d.circuit d.is.section_is in
         let long : found.0.ticks ≡ ticks = is.long d.s found.0 found.1 in
-        let sooner : tick_of d.circuit r.rest ≤ T = r.sooner in
+        let sooner : tick_of d.circuit r.settling ≤ T = r.sooner in
         keeps_same d.circuit.header c.header d.same.spec net.spec (net_signal found.0 d.i) (net_signal run i) t
         (joined.clocks d.s s d.circuit c d.is.section_is of.section_is)
         (joined.alike d.s d.i s i d.circuit c d.same net d.is of d.one)
         (one_signal whole runs ticks is d.s d.i s i d.circuit c d.same net found.0 run d.is of d.one found.1 run_at)
-        (step_ahead whole d.circuit r.rest found.0 (known d.s d.circuit d.is.section_is) (some d.s d.circuit d.is.section_is)
+        (step_ahead whole d.circuit r.settling found.0 (known d.s d.circuit d.is.section_is) (some d.s d.circuit d.is.section_is)
         (is.each d.s d.circuit found.0 d.is.section_is found.1) r.at t d.i d.k d.same d.instance
         (omega (arith, long, inside)) (omega (arith, sooner, past))
         (inputs_keep t d.s d.circuit found.0 d.is.section_is found.1 (omega (arith, inside)) before)
@@ -145,14 +145,14 @@ module _ (whole : List Circuit) (T : ℕ) (joined : AreJoined whole)
       | by_net i b ↦ no_net_breaks c run ws [] v T pos circuit long (constraints s c run at run_at) isrun permits v1 far i refl b
     ]
       where
-        r : RestsClean whole T c
-        r = rests s c at
+        r : SettlesClean whole T c
+        r = settlings s c at
 
         ws : Waves
-        ws = r.rest.waves
+        ws = r.settling.waves
 
         v : ℕ
-        v = r.rest.rounds * reach c + 1
+        v = r.settling.rounds * reach c + 1
 
         pos : 0 < period c.header
         pos = some s c at
@@ -164,21 +164,21 @@ module _ (whole : List Circuit) (T : ℕ) (joined : AreJoined whole)
         isrun = is.each s c run at run_at
 
         long : AreLong c ws
-        long = rest_long whole c r.rest run circuit pos isrun r.at
+        long = settling_long whole c r.settling run circuit pos isrun r.at
 
         all : run.ticks ≡ ticks
         all = is.long s run run_at
 
         permits : PermitRun c run ws v
         permits =
-            rest_permits whole c r.rest run circuit pos isrun r.at run.ticks (omega arith)
+            settling_permits whole c r.settling run circuit pos isrun r.at run.ticks (omega arith)
             (inputs_keep run.ticks s c run at run_at (omega (arith, all)) (kept_before run.ticks))
 
         v1 : 1 ≤ v
         v1 = omega arith
 
         far : v + reach c ≤ T + 1
-        far = let sooner = r.sooner in printed_far r.rest.rounds (reach c) T sooner
+        far = let sooner = r.sooner in printed_far r.settling.rounds (reach c) T sooner
 
     pub keeps_on : KeepsOn whole runs ticks T
     keeps_on = record {

@@ -17,7 +17,7 @@ use Rattle.timing_analysis.specs.Drawn.{IsTextRefused}
 use Rattle.timing_analysis.proofs.OneCircuit.{one_circuit}
 use Rattle.timing_analysis.proofs.OneText.{no_stop, one_refusal}
 use Rattle.program_call.specs.Program.{IsLawful}
-use Rattle.timing_analysis.proofs.OneRest.{one_place, one_rest, same_waves}
+use Rattle.timing_analysis.proofs.SettlesOneWay.{one_place, settles_once, same_waves}
 use Rattle.section_compose.specs.declared.outcome.SectionsOutcome.{SectionsOutcome}
 use Rattle.section_compose.specs.declared.outcome.SectionsOutcome.TheVariants.{Clean, Faulty, Refused, Unsettled, BadSection}
 use Rattle.section_compose.specs.declared.rules.Broken.{Broken}
@@ -25,7 +25,7 @@ use Rattle.section_compose.specs.declared.section.Section.{Section}
 use Rattle.section_compose.specs.Answer as answer
 use Rattle.section_compose.specs.Answer.{AreEnough, Concluded, Joined, RefusesFirst, composer}
 use Rattle.section_compose.specs.Cut.{sections_of}
-use Rattle.section_compose.specs.Evaluated.{AreSettled, IsAtRest, NeverSettles, Rest, StopsAt, all_faults, section_round}
+use Rattle.section_compose.specs.Evaluated.{AllSettled, IsSettled, NeverSettles, Settling, StopsAt, all_faults, section_round}
 use Rattle.section_compose.specs.Lines.{broken_line, refused_lines, report, unsettled_lines}
 use Rattle.section_compose.specs.Outcome.{end_of, ended, verdict_of}
 use Rattle.section_compose.proofs.Fronts.{settled_at}
@@ -100,33 +100,33 @@ one_first texts s s' r r' a b = (places, causes places)
         one_refusal a.text r r' (as_text a.text r a.refused)
         (as_text a.text r' (subst (λ (t : List ℕ). IsSectionRefused t r') texts_same b.refused))
 
--- ---- sections at rest
+-- ---- settled sections
 
-one_at_rest : (whole : List Circuit) (c : Circuit) (x y : Rest) → IsAtRest whole c x → IsAtRest whole c y → x ≡ y
-one_at_rest whole c x y a b =
-    let rounds : x.rounds ≡ y.rounds = one_rest (section_round whole c) (default_limit c) (default_limit c) x.rounds y.rounds a.rests b.rests in
+one_settling : (whole : List Circuit) (c : Circuit) (x y : Settling) → IsSettled whole c x → IsSettled whole c y → x ≡ y
+one_settling whole c x y a b =
+    let rounds : x.rounds ≡ y.rounds = settles_once (section_round whole c) (default_limit c) (default_limit c) x.rounds y.rounds a.settles b.settles in
     let mine : x.waves ≡ section_round whole c x.rounds = same_waves x.waves (section_round whole c x.rounds) a.waves in
     let other : y.waves ≡ section_round whole c y.rounds = same_waves y.waves (section_round whole c y.rounds) b.waves in
     let waves : x.waves ≡ y.waves = mine ∙ ap (section_round whole c) rounds ∙ sym other in
     λ k. record { rounds = rounds k; waves = waves k }
 
-one_settled : (whole sections : List Circuit) (xs ys : List Rest) → AreSettled whole sections xs → AreSettled whole sections ys → xs ≡ ys
+one_settled : (whole sections : List Circuit) (xs ys : List Settling) → AllSettled whole sections xs → AllSettled whole sections ys → xs ≡ ys
 one_settled whole [] [] [] a b = refl
 one_settled whole [] [] (y ∷ ys) a b = absurd b
 one_settled whole [] (x ∷ xs) ys a b = absurd a
 one_settled whole (c ∷ sections) [] ys a b = absurd a
 one_settled whole (c ∷ sections) (x ∷ xs) [] a b = absurd b
 one_settled whole (c ∷ sections) (x ∷ xs) (y ∷ ys) a b =
-    let head : x ≡ y = one_at_rest whole c x y a.0 b.0 in
+    let head : x ≡ y = one_settling whole c x y a.0 b.0 in
     let tail : xs ≡ ys = one_settled whole sections xs ys a.1 b.1 in
     λ k. head k ∷ tail k
 
-rest_or_never : (whole : List Circuit) (c : Circuit) (place : ℕ) (rest : Rest) → IsAtRest whole c rest → NeverSettles whole c place → ⊥
-rest_or_never whole c place rest at never = never.never rest.rounds at.rests.within at.rests.still
+settled_or_never : (whole : List Circuit) (c : Circuit) (place : ℕ) (settling : Settling) → IsSettled whole c settling → NeverSettles whole c place → ⊥
+settled_or_never whole c place settling at never = never.never settling.rounds at.settles.within at.settles.still
 
 stops_sooner : (whole : List Circuit) (s s' place place' : ℕ) → s < s' → StopsAt whole s place → StopsAt whole s' place' → ⊥
 stops_sooner whole s s' place place' less a b =
-    let x = b.before s a.circuit less a.circuit_is in rest_or_never whole a.circuit place x.0 x.1 a.never
+    let x = b.before s a.circuit less a.circuit_is in settled_or_never whole a.circuit place x.0 x.1 a.never
 
 -- the same section, with the same net
 one_stop : (whole : List Circuit) (s s' place place' : ℕ) (a : StopsAt whole s place) (b : StopsAt whole s' place') →
@@ -161,23 +161,23 @@ one_concluded sections _ _ _ _ (answer.broken b c is at) (answer.broken b' c' is
       (λ k. broken_line (same k).rule (same k).section (circuit k) (same k).net),
     )
 one_concluded sections _ _ _ _ (answer.broken b c is at) (answer.unsettled s place kept stops) = absurd (cc (is, kept))
-one_concluded sections _ _ _ _ (answer.broken b c is at) (answer.settled rests kept rest) = absurd (cc (is, kept))
+one_concluded sections _ _ _ _ (answer.broken b c is at) (answer.settled settlings kept settling) = absurd (cc (is, kept))
 one_concluded sections _ _ _ _ (answer.unsettled s place kept stops) (answer.broken b c is at) = absurd (cc (is, kept))
 one_concluded sections _ _ _ _ (answer.unsettled s place kept stops) (answer.unsettled s' place' kept' stops') =
     let one = one_stop (circuits sections) s s' place place' stops stops' in (
       (λ k. Unsettled (one.0 k + 1) (one.2 k) (default_limit (one.1 k))),
       (λ k. unsettled_lines (one.0 k + 1) (one.1 k) (one.2 k)),
     )
-one_concluded sections _ _ _ _ (answer.unsettled s place kept stops) (answer.settled rests kept' rest) =
-    let x = settled_at (circuits sections) (circuits sections) rests rest s stops.circuit stops.circuit_is in
-    absurd (rest_or_never (circuits sections) stops.circuit place x.0 x.1 stops.never)
-one_concluded sections _ _ _ _ (answer.settled rests kept rest) (answer.broken b c is at) = absurd (cc (is, kept))
-one_concluded sections _ _ _ _ (answer.settled rests kept rest) (answer.unsettled s place kept' stops) =
-    let x = settled_at (circuits sections) (circuits sections) rests rest s stops.circuit stops.circuit_is in
-    absurd (rest_or_never (circuits sections) stops.circuit place x.0 x.1 stops.never)
-one_concluded sections _ _ _ _ (answer.settled rests kept rest) (answer.settled rests' kept' rest') =
-    let one : rests ≡ rests' = one_settled (circuits sections) (circuits sections) rests rests' rest rest' in
-    (ap (λ (xs : List Rest). verdict_of (all_faults (circuits sections) xs)) one, ap (report sections) one)
+one_concluded sections _ _ _ _ (answer.unsettled s place kept stops) (answer.settled settlings kept' settling) =
+    let x = settled_at (circuits sections) (circuits sections) settlings settling s stops.circuit stops.circuit_is in
+    absurd (settled_or_never (circuits sections) stops.circuit place x.0 x.1 stops.never)
+one_concluded sections _ _ _ _ (answer.settled settlings kept settling) (answer.broken b c is at) = absurd (cc (is, kept))
+one_concluded sections _ _ _ _ (answer.settled settlings kept settling) (answer.unsettled s place kept' stops) =
+    let x = settled_at (circuits sections) (circuits sections) settlings settling s stops.circuit stops.circuit_is in
+    absurd (settled_or_never (circuits sections) stops.circuit place x.0 x.1 stops.never)
+one_concluded sections _ _ _ _ (answer.settled settlings kept settling) (answer.settled settlings' kept' settling') =
+    let one : settlings ≡ settlings' = one_settled (circuits sections) (circuits sections) settlings settlings' settling settling' in
+    (ap (λ (xs : List Settling). verdict_of (all_faults (circuits sections) xs)) one, ap (report sections) one)
 
 few_or_enough : (count : ℕ) → (count < 2) ⊎ (64 < count) → AreEnough count → ⊥
 few_or_enough count (inl few) enough = let least = enough.least in omega (arith, few, least)
@@ -213,7 +213,7 @@ verdict_speaks n = by (n == 0)
 concluded_speaks : (sections : List Section) (o : SectionsOutcome) (bytes : List ℕ) → Concluded sections o bytes → end_of o ≡ None
 concluded_speaks sections _ _ (answer.broken b c is at) = refl
 concluded_speaks sections _ _ (answer.unsettled s place kept stops) = refl
-concluded_speaks sections _ _ (answer.settled rests kept rest) = verdict_speaks (all_faults (circuits sections) rests)
+concluded_speaks sections _ _ (answer.settled settlings kept settling) = verdict_speaks (all_faults (circuits sections) settlings)
 
 joined_speaks : (text : List ℕ) (o : SectionsOutcome) (bytes : List ℕ) → Joined text o bytes →
     end_of o ≡ None

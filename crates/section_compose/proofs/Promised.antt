@@ -10,13 +10,13 @@ use Rattle.section_compose.specs.declared.outcome.SectionsOutcome.{SectionsOutco
 use Rattle.section_compose.specs.declared.outcome.SectionsOutcome.TheVariants.{Clean, Faulty}
 use Rattle.section_compose.specs.declared.section.Section.{Section}
 use Rattle.section_compose.specs.Answer.{Concluded, HasSections, broken, unsettled, settled}
-use Rattle.section_compose.specs.Evaluated.{Rest, AreSettled, all_faults, greatest_tick}
+use Rattle.section_compose.specs.Evaluated.{Settling, AllSettled, all_faults, greatest_tick}
 use Rattle.section_compose.specs.Outcome.{verdict_of}
 use Rattle.section_compose.specs.Promise.{NeverBreaksJoined}
 use Rattle.section_compose.specs.Reading.{AreTimed}
 use Rattle.section_compose.specs.Drawn.{DrawsSection}
 use Rattle.section_compose.specs.Rules.{circuits, first_broken}
-use Rattle.section_compose.proofs.Facts.{each_rests}
+use Rattle.section_compose.proofs.Facts.{each_settles}
 use Rattle.section_compose.proofs.Joined.{never_breaks}
 use Rattle.section_compose.proofs.Kept.{rules_hold}
 
@@ -45,28 +45,28 @@ no_faults n clean = eqb-true n 0 (by (n == 0) clean)
     by true e = refl
     by false e = cc
 
-never_breaks_settled : (text : List ℕ) (sections : List Section) (rests : List Rest) → HasSections text sections → AreTimed sections →
-    first_broken sections ≡ None → AreSettled (circuits sections) (circuits sections) rests →
-    all_faults (circuits sections) rests ≡ 0 → NeverBreaksJoined text
-never_breaks_settled text sections rests has timed kept rest none = record {
+never_breaks_settled : (text : List ℕ) (sections : List Section) (settlings : List Settling) → HasSections text sections → AreTimed sections →
+    first_broken sections ≡ None → AllSettled (circuits sections) (circuits sections) settlings →
+    all_faults (circuits sections) settlings ≡ 0 → NeverBreaksJoined text
+never_breaks_settled text sections settlings has timed kept settling none = record {
   sections = sections;
   drawn = has;
   joined = kept;
-  rests = rests;
-  settled = rest;
+  settlings = settlings;
+  settled = settling;
   never =
-      never_breaks (circuits sections) (greatest_tick (circuits sections) rests)
+      never_breaks (circuits sections) (greatest_tick (circuits sections) settlings)
       (rules_hold sections kept (drawn_are _ sections has.drawn))
       (drawn_are _ sections has.drawn) (timed_are sections timed)
-      (each_rests (circuits sections) (circuits sections) rests rest none);
+      (each_settles (circuits sections) (circuits sections) settlings settling none);
 }
 
 pub clean_never_breaks : (text : List ℕ) (sections : List Section) (o : SectionsOutcome) (bytes : List ℕ) → HasSections text sections →
     AreTimed sections → Concluded sections o bytes → o ≡ Clean → NeverBreaksJoined text
 clean_never_breaks text sections _ _ has timed (broken b c is at) clean = cc
 clean_never_breaks text sections _ _ has timed (unsettled s place kept stops) clean = cc
-clean_never_breaks text sections _ _ has timed (settled rests kept rest) clean =
-    never_breaks_settled text sections rests has timed kept rest (no_faults (all_faults (circuits sections) rests) clean)
+clean_never_breaks text sections _ _ has timed (settled settlings kept settling) clean =
+    never_breaks_settled text sections settlings has timed kept settling (no_faults (all_faults (circuits sections) settlings) clean)
 
 pub replied_clean : {A E : Type 0} (r : Result A E) (outcome : A → SectionsOutcome) (bytes : A → List ℕ) (text : List ℕ) (sections : List Section) →
     HasSections text sections → AreTimed sections → IfOk r (λ x. Concluded sections (outcome x) (bytes x)) →

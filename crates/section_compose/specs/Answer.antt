@@ -14,7 +14,7 @@ use Rattle.section_compose.specs.declared.rules.Broken.{Broken}
 use Rattle.section_compose.specs.declared.section.Section.{Section}
 use Rattle.section_compose.specs.Cut.{sections_of}
 use Rattle.section_compose.specs.Drawn.{DrawsSection, IsSectionRefused}
-use Rattle.section_compose.specs.Evaluated.{Rest, AreSettled, StopsAt, all_faults}
+use Rattle.section_compose.specs.Evaluated.{Settling, AllSettled, StopsAt, all_faults}
 use Rattle.section_compose.specs.Lines.{broken_line, refused_lines, unsettled_lines, report}
 use Rattle.section_compose.specs.Outcome.{ended, end_of, verdict_of}
 use Rattle.section_compose.specs.Rule.{number_of}
@@ -26,13 +26,16 @@ use Rattle.section_compose.specs.Rules.{circuits, first_broken}
 pub data Concluded (sections : List Section) : SectionsOutcome → List ℕ → Type 0 where
   broken : (b : Broken) (c : Circuit) → first_broken sections ≡ Some b →
       slice_get (circuits sections) (b.section - 1) ≡ Some c →
-      Concluded sections (BadSection b.section (number_of b.rule) b.net) (broken_line b.rule b.section c b.net)
-  unsettled : (s place : ℕ) → first_broken sections ≡ None → (stops : StopsAt (circuits sections) s place) →
+      Concluded sections (BadSection b.section (number_of b.rule) b.net)
+      (broken_line b.rule b.section c b.net)
+  unsettled : (s place : ℕ) → first_broken sections ≡ None →
+      (stops : StopsAt (circuits sections) s place) →
       Concluded sections (Unsettled (s + 1) place (default_limit stops.circuit))
       (unsettled_lines (s + 1) stops.circuit place)
-  settled : (rests : List Rest) → first_broken sections ≡ None →
-      AreSettled (circuits sections) (circuits sections) rests →
-      Concluded sections (verdict_of (all_faults (circuits sections) rests)) (report sections rests)
+  settled : (settlings : List Settling) → first_broken sections ≡ None →
+      AllSettled (circuits sections) (circuits sections) settlings →
+      Concluded sections (verdict_of (all_faults (circuits sections) settlings))
+      (report sections settlings)
 
 -- ---- all sections
 
@@ -56,16 +59,17 @@ pub record HasSections (text : List ℕ) (sections : List Section) : Type 0 wher
 
 -- ---- the answer to a text
 
--- What is answered, by outcome and bytes: how many sections there are, where there are too few or too
--- many; or why the first section is refused that is; or what is said of drawn sections: the first rule
--- that they break, or the first that never settles, or the report.
+-- What is answered, by outcome and bytes: how many sections there are, where there are too few or
+-- too many; or why the first section is refused that is; or what is said of drawn sections: the
+-- first rule that they break, or the first that never settles, or the report.
 pub data Joined (text : List ℕ) : SectionsOutcome → List ℕ → Type 0 where
   bad_count : (length (sections_of text) < 2) ⊎ (64 < length (sections_of text)) →
       Joined text (BadCount (length (sections_of text))) []
   refused : (s : ℕ) (r : Refusal) → AreEnough (length (sections_of text)) →
       RefusesFirst (sections_of text) s r →
       Joined text (Refused (s + 1) r) (refused_lines (s + 1) r)
-  drawn : (sections : List Section) (o : SectionsOutcome) (bytes : List ℕ) → HasSections text sections →
+  drawn : (sections : List Section) (o : SectionsOutcome) (bytes : List ℕ) →
+      HasSections text sections →
       Concluded sections o bytes → Joined text o bytes
 
 -- What is answered to words and a text.

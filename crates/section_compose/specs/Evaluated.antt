@@ -1,4 +1,5 @@
--- A section at rest. It is evaluated by itself; a net that crosses into it is known by its assertion.
+-- A settled section. It is evaluated by itself; a net that crosses into it is known by its
+-- assertion.
 use Rattle.std.specs.Prelude.{◌≡◌, ℕ, ◌+◌, ◌<◌, max, Bool, true, false, List, [], ◌∷◌, length, slice_get, Option, Some, None}
 use Rattle.scald_base.specs.Time.{Header}
 use Rattle.scald_base.specs.declared.assertion.AssertSpec.{AssertSpec}
@@ -12,7 +13,7 @@ use Rattle.pin_waves.specs.Interface.{wide_wave}
 use Rattle.fixpoint_engine.specs.Waves.{Waves}
 use Rattle.fixpoint_engine.specs.Reach.{reach}
 use Rattle.fixpoint_engine.specs.Rounds.{IsUnsettled, round}
-use Rattle.fixpoint_engine.specs.Settled.{AreAtRest}
+use Rattle.fixpoint_engine.specs.Settled.{AreSettled}
 use Rattle.fixpoint_engine.specs.Start.{base_start, default_limit, is_driven}
 use Rattle.case_analysis.specs.Tick.{tick}
 use Rattle.timing_analysis.specs.Case.{faults_of}
@@ -50,23 +51,25 @@ section_start whole c = start_with c (across whole c)
 abbrev pub section_round : List Circuit → Circuit → ℕ → Waves
 section_round whole c = round c (is_driven c) (section_start whole c)
 
--- ---- at rest
+-- ---- settled
 
 -- in how many rounds a section settled, and its waves then
-pub record Rest : Type 0 where
+pub record Settling : Type 0 where
   pub rounds : ℕ
   pub waves : Waves
 
-abbrev pub IsAtRest : List Circuit → Circuit → Rest → Type 0
-IsAtRest whole c rest =
-    AreAtRest c (is_driven c) (section_start whole c) (default_limit c) rest.rounds rest.waves
+abbrev pub IsSettled : List Circuit → Circuit → Settling → Type 0
+IsSettled whole c settling =
+    AreSettled c (is_driven c) (section_start whole c) (default_limit c) settling.rounds
+    settling.waves
 
--- Each of these sections is at rest, in their order.
-abbrev pub AreSettled : List Circuit → List Circuit → List Rest → Type 0
-AreSettled whole [] [] = Unit {0}
-AreSettled whole [] (rest ∷ rests) = ⊥
-AreSettled whole (c ∷ sections) [] = ⊥
-AreSettled whole (c ∷ sections) (rest ∷ rests) = IsAtRest whole c rest × AreSettled whole sections rests
+-- Each of these sections has settled, in their order.
+abbrev pub AllSettled : List Circuit → List Circuit → List Settling → Type 0
+AllSettled whole [] [] = Unit {0}
+AllSettled whole [] (settling ∷ settlings) = ⊥
+AllSettled whole (c ∷ sections) [] = ⊥
+AllSettled whole (c ∷ sections) (settling ∷ settlings) =
+    IsSettled whole c settling × AllSettled whole sections settlings
 
 -- The section never settles: the net at this place in name order is the first that still changes.
 abbrev pub NeverSettles : List Circuit → Circuit → ℕ → Type 0
@@ -76,24 +79,27 @@ NeverSettles whole c place = IsUnsettled c.order (section_round whole c) (defaul
 pub record StopsAt (whole : List Circuit) (s place : ℕ) : Type 0 where
   pub circuit : Circuit
   pub circuit_is : slice_get whole s ≡ Some circuit
-  pub before : (k : ℕ) (c : Circuit) → k < s → slice_get whole k ≡ Some c → (rest : Rest) × IsAtRest whole c rest
+  pub before : (k : ℕ) (c : Circuit) → k < s → slice_get whole k ≡ Some c →
+      (settling : Settling) × IsSettled whole c settling
   pub never : NeverSettles whole circuit place
 
 -- ---- what is printed of it
 
-abbrev pub tick_of : Circuit → Rest → ℕ
-tick_of c rest = tick (reach c) rest.rounds 0
+abbrev pub tick_of : Circuit → Settling → ℕ
+tick_of c settling = tick (reach c) settling.rounds 0
 
-abbrev pub faults_in : Circuit → Rest → List Fault
-faults_in c rest = faults_of c rest.waves
+abbrev pub faults_in : Circuit → Settling → List Fault
+faults_in c settling = faults_of c settling.waves
 
 -- the greatest of the ticks, and how many faults there are in all sections
-abbrev pub greatest_tick : List Circuit → List Rest → ℕ
-greatest_tick [] rests = 0
+abbrev pub greatest_tick : List Circuit → List Settling → ℕ
+greatest_tick [] settlings = 0
 greatest_tick (c ∷ sections) [] = 0
-greatest_tick (c ∷ sections) (rest ∷ rests) = max (tick_of c rest) (greatest_tick sections rests)
+greatest_tick (c ∷ sections) (settling ∷ settlings) =
+    max (tick_of c settling) (greatest_tick sections settlings)
 
-abbrev pub all_faults : List Circuit → List Rest → ℕ
-all_faults [] rests = 0
+abbrev pub all_faults : List Circuit → List Settling → ℕ
+all_faults [] settlings = 0
 all_faults (c ∷ sections) [] = 0
-all_faults (c ∷ sections) (rest ∷ rests) = length (faults_in c rest) + all_faults sections rests
+all_faults (c ∷ sections) (settling ∷ settlings) =
+    length (faults_in c settling) + all_faults sections settlings

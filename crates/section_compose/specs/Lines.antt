@@ -13,7 +13,7 @@ use Rattle.listing.specs.Names.{net_text}
 use Rattle.listing.specs.Text.{line}
 use Rattle.section_compose.specs.declared.rules.Rule.{Rule}
 use Rattle.section_compose.specs.declared.section.Section.{Section}
-use Rattle.section_compose.specs.Evaluated.{Rest, all_faults, faults_in, greatest_tick, tick_of}
+use Rattle.section_compose.specs.Evaluated.{Settling, all_faults, faults_in, greatest_tick, tick_of}
 use Rattle.section_compose.specs.Rule.{is_of_net, name_of, number_of}
 use Rattle.section_compose.specs.Rules.{circuits}
 
@@ -42,24 +42,27 @@ unsettled_lines section c place = section_line section ++ unsettled_line c place
 
 -- ---- the report
 
--- the head of a section, by its own version, and its one case, in which no case of its own is listed
-abbrev pub section_lines : ℕ → Section → Rest → List ℕ
-section_lines number s rest =
+-- the head of a section, by its own version, and its one case, in which no case of its own is
+-- listed
+abbrev pub section_lines : ℕ → Section → Settling → List ℕ
+section_lines number s settling =
     section_line number ++ (head s.version s.circuit
-    ++ case_lines s.circuit Faults 0 rest.rounds 0 (tick_of s.circuit rest) rest.waves (faults_in s.circuit rest))
+    ++ case_lines s.circuit Faults 0 settling.rounds 0 (tick_of s.circuit settling) settling.waves
+    (faults_in s.circuit settling))
 
-abbrev pub all_lines : ℕ → List Section → List Rest → List ℕ
-all_lines number [] rests = []
+abbrev pub all_lines : ℕ → List Section → List Settling → List ℕ
+all_lines number [] settlings = []
 all_lines number (s ∷ sections) [] = []
-all_lines number (s ∷ sections) (rest ∷ rests) =
-    section_lines number s rest ++ all_lines (number + 1) sections rests
+all_lines number (s ∷ sections) (settling ∷ settlings) =
+    section_lines number s settling ++ all_lines (number + 1) sections settlings
 
 -- how many sections there are, and the tick from which on all waves hold
 unfoldable pub sections_line : ℕ → ℕ → List ℕ
-sections_line sections tick = line (codes "SECTIONS " ∷ decimal sections ∷ codes " T " ∷ decimal tick ∷ [])
+sections_line sections tick =
+    line (codes "SECTIONS " ∷ decimal sections ∷ codes " T " ∷ decimal tick ∷ [])
 
-abbrev pub report : List Section → List Rest → List ℕ
-report sections rests =
-    all_lines 1 sections rests
-    ++ (sections_line (length sections) (greatest_tick (circuits sections) rests)
-    ++ last_line (all_faults (circuits sections) rests))
+abbrev pub report : List Section → List Settling → List ℕ
+report sections settlings =
+    all_lines 1 sections settlings
+    ++ (sections_line (length sections) (greatest_tick (circuits sections) settlings)
+    ++ last_line (all_faults (circuits sections) settlings))

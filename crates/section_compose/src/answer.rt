@@ -11,7 +11,7 @@ ghost use Rattle.section_compose.specs.Answer.{AreEnough, Concluded, Joined};
 ghost use Rattle.section_compose.specs.Promise.{NeverBreaksJoined};
 ghost use Rattle.section_compose.specs.Reading.{AreTimed, IsRefusedIn};
 
-use crate::evaluated::section_at_rest;
+use crate::evaluated::settled_section;
 use crate::outcome::SectionsOutcome;
 use crate::report::{Report, bad_section, refused, unsettled};
 use crate::{Broken, Piece, Section, first_broken, read_section, sections_of};
@@ -39,7 +39,8 @@ fn is_wrong(count: usize) -> bool
 pub fn answer(alloc: Global, text: &[u8]) -> Result<Reply<SectionsOutcome>, NoMemory>
     requires { length text.now ≤ 4194304 }
     ensures is { IfOk result (λ reply. Joined text.now reply.outcome reply.bytes) }
-    ensures clean { IfOk result (λ reply. reply.outcome ≡ SectionsOutcome.Clean → NeverBreaksJoined text.now) }
+    ensures clean { IfOk result (λ reply. reply.outcome ≡ SectionsOutcome.Clean →
+        NeverBreaksJoined text.now) }
 {
     let pieces = sections_of(alloc, text)?;
     let count = pieces.len();
@@ -138,7 +139,8 @@ fn joined(alloc: Global, sections: &[Section]) -> Result<Reply<SectionsOutcome>,
     }
 }
 
-/// The answer where the sections break no rule: the report, or the first section that does not settle.
+/// The answer where the sections break no rule: the report, or the first section that does not
+/// settle.
 fn settled(alloc: Global, sections: &[Section]) -> Result<Reply<SectionsOutcome>, NoMemory>
     requires enough { AreEnough (length sections.now) }
     requires kept { first_broken sections.now ≡ None }
@@ -148,8 +150,8 @@ fn settled(alloc: Global, sections: &[Section]) -> Result<Reply<SectionsOutcome>
     for s in 0..sections.len() {
         let section = &sections[s];
         let number = s as u32 + 1;
-        match section_at_rest::<RunWave<Value>>(alloc, sections, &section.circuit) {
-            Ok(rest) => report.add_section(number, section, &rest)?,
+        match settled_section::<RunWave<Value>>(alloc, sections, &section.circuit) {
+            Ok(settling) => report.add_section(number, section, &settling)?,
             Err(EngineEnd::Unsettled { net, round }) => {
                 return unsettled(alloc, number, &section.circuit, net, round);
             }

@@ -1,4 +1,4 @@
-//! A section at rest, evaluated by itself.
+//! A settled section, evaluated by itself.
 
 ghost use Rattle.std.specs.Prelude.{◌≡◌, ◌<◌, ◌≤◌, ◌++◌, ◌∷◌, ℕ, [], true, false, if◌then◌else◌, IfErr, IfOk, OnOk, length};
 ghost use Rattle.fixpoint_engine.specs.Table.{AreKnown, Grows, IsNumber, waves_at};
@@ -6,10 +6,10 @@ ghost use Rattle.fixpoint_engine.specs.Waves.{FitWaves, waves_of};
 ghost use Rattle.case_analysis.specs.Case.{NetsExist, is_set};
 ghost use Rattle.fixpoint_engine.specs.End.{EndsFor};
 ghost use Rattle.fixpoint_engine.specs.Rounds.{round};
-ghost use Rattle.fixpoint_engine.specs.Settled.{AreAtRest};
+ghost use Rattle.fixpoint_engine.specs.Settled.{AreSettled};
 ghost use Rattle.fixpoint_engine.specs.Start.{default_limit, is_driven};
-ghost use Rattle.section_compose.specs.Evaluated.{IsAtRest, across, faults_in, section_round, start_with, tick_of, wave_across};
-ghost use Rattle.section_compose.specs.Settled.{IsCase, rest_in};
+ghost use Rattle.section_compose.specs.Evaluated.{IsSettled, across, faults_in, section_round, start_with, tick_of, wave_across};
+ghost use Rattle.section_compose.specs.Settled.{IsCase, settling_in};
 ghost use Rattle.section_compose.specs.Rules.{circuits};
 
 use crate::{Section, crosses_into};
@@ -26,9 +26,9 @@ use step_values::Value;
 use timing_analysis::faults;
 use wave_core::CyclicWave;
 
-/// A section at rest.
+/// A settled section.
 #[derive(Drop)]
-pub struct SectionAtRest<W: CyclicWave<Item = Value>> {
+pub struct SettledSection<W: CyclicWave<Item = Value>> {
     /// The waves by their numbers, and what was made of them.
     pub store: Store<W>,
     /// The numbers of its waves, and the round in which they settled.
@@ -61,8 +61,8 @@ fn add_where(case: &mut Case, net: u32, comes: bool) -> Result<(), NoMemory>
     }
 }
 
-/// The nets that come from other sections, as a case that sets them: so the classes of nets tell them
-/// from nets that nothing drives.
+/// The nets that come from other sections, as a case that sets them: so the classes of nets tell
+/// them from nets that nothing drives.
 fn crossing_case(alloc: Global, sections: &[Section], c: &Circuit) -> Result<Case, NoMemory>
     ensures { IfOk result (IsCase (circuits sections.now) c.now) }
 {
@@ -106,8 +106,8 @@ fn number_across<W: CyclicWave<Item = Value>>(
     }
 }
 
-/// The numbers of the waves that a section begins with: those of its circuit alone, but for the nets that
-/// come from other sections.
+/// The numbers of the waves that a section begins with: those of its circuit alone, but for the
+/// nets that come from other sections.
 fn section_start<W: CyclicWave<Item = Value>>(
     alloc: Global,
     c: &Circuit,
@@ -129,8 +129,8 @@ fn section_start<W: CyclicWave<Item = Value>>(
     Ok(numbers)
 }
 
-/// The rounds of a section until they settle, by one net of each class where nothing tells the nets of a
-/// class apart, and else by each net. The waves are answered by their numbers in the store.
+/// The rounds of a section until they settle, by one net of each class where nothing tells the nets
+/// of a class apart, and else by each net. The waves are answered by their numbers in the store.
 fn settled<W: CyclicWave<Item = Value>>(
     alloc: Global,
     c: &Circuit,
@@ -139,13 +139,14 @@ fn settled<W: CyclicWave<Item = Value>>(
 ) -> Result<Settled, EngineEnd>
     requires { NetsExist c.now case }
     ensures known { IfOk result (λ s. AreKnown store.new s.numbers) }
-    ensures rest { let start = start_with c.now (is_set case) in
-        IfOk result (λ s. AreAtRest c.now (is_driven c.now) start (default_limit c.now) s.rounds
+    ensures settled { let start = start_with c.now (is_set case) in
+        IfOk result (λ s. AreSettled c.now (is_driven c.now) start (default_limit c.now) s.rounds
         (waves_of (waves_at store.new s.numbers))) }
     ensures fit { IfOk result (λ s. FitWaves c.now (waves_at store.new s.numbers)) }
     ensures within { IfOk result (λ s. s.rounds ≤ 81936) }
     ensures unsettled { let start = start_with c.now (is_set case) in
-        IfErr result (EndsFor c.now.order (round c.now (is_driven c.now) start) (default_limit c.now)) }
+        IfErr result (EndsFor c.now.order (round c.now (is_driven c.now) start)
+        (default_limit c.now)) }
 {
     c.known();
     c.header().known();
@@ -163,21 +164,22 @@ fn settled<W: CyclicWave<Item = Value>>(
     )
 }
 
-/// A section at rest, with its faults. `Unsettled` comes where it does not settle within its limit of
-/// rounds, and `NoMemory` where memory runs out.
-pub fn section_at_rest<W: CyclicWave<Item = Value>>(
+/// A settled section, with its faults. `Unsettled` comes where it does not settle within its limit
+/// of rounds, and `NoMemory` where memory runs out.
+pub fn settled_section<W: CyclicWave<Item = Value>>(
     alloc: Global,
     sections: &[Section],
     c: &Circuit,
-) -> Result<SectionAtRest<W>, EngineEnd>
+) -> Result<SettledSection<W>, EngineEnd>
     ensures known { IfOk result (λ s. AreKnown s.store s.settled.numbers) }
-    ensures rest { IfOk result (λ s.
-        IsAtRest (circuits sections.now) c.now (rest_in s.settled.rounds s.store s.settled.numbers)) }
+    ensures settled { IfOk result (λ s.
+        IsSettled (circuits sections.now) c.now
+        (settling_in s.settled.rounds s.store s.settled.numbers)) }
     ensures fit { IfOk result (λ s. FitWaves c.now (waves_at s.store s.settled.numbers)) }
     ensures tick { IfOk result (λ s.
-        s.tick ≡ tick_of c.now (rest_in s.settled.rounds s.store s.settled.numbers)) }
+        s.tick ≡ tick_of c.now (settling_in s.settled.rounds s.store s.settled.numbers)) }
     ensures faults { IfOk result (λ s.
-        s.faults ≡ faults_in c.now (rest_in s.settled.rounds s.store s.settled.numbers)) }
+        s.faults ≡ faults_in c.now (settling_in s.settled.rounds s.store s.settled.numbers)) }
     ensures few { IfOk result (λ s. length s.faults ≤ 458752) }
     ensures unsettled { IfErr result
         (EndsFor c.now.order (section_round (circuits sections.now) c.now) (default_limit c.now)) }
@@ -191,7 +193,7 @@ pub fn section_at_rest<W: CyclicWave<Item = Value>>(
     let waves = Waves::new(store.waves(), settled.numbers.as_slice());
     let found = faults(alloc, c, &waves)?;
     let tick = tick(reach(c), settled.rounds, 0);
-    Ok(SectionAtRest {
+    Ok(SettledSection {
         store,
         settled,
         tick,

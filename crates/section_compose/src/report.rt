@@ -10,9 +10,9 @@ ghost use Rattle.section_compose.specs.Evaluated.{faults_in, tick_of};
 ghost use Rattle.section_compose.specs.Lines.{broken_line, refused_lines, section_line, section_lines, sections_line};
 ghost use Rattle.section_compose.specs.Outcome.{verdict_of};
 ghost use Rattle.section_compose.specs.Rule.{is_of_net, number_of};
-ghost use Rattle.section_compose.specs.Settled.{rest_in};
+ghost use Rattle.section_compose.specs.Settled.{settling_in};
 
-use crate::evaluated::SectionAtRest;
+use crate::evaluated::SettledSection;
 use crate::outcome::SectionsOutcome;
 use crate::{Broken, Rule, Section};
 use fixpoint_engine::Waves;
@@ -39,8 +39,8 @@ fn add_section(out: &mut Bytes, section: u32) -> Result<(), NoMemory>
     )
 }
 
-/// The lines of the report so far, the greatest tick that is printed for a section, and how many faults
-/// the sections have.
+/// The lines of the report so far, the greatest tick that is printed for a section, and how many
+/// faults the sections have.
 #[derive(Drop)]
 pub struct Report {
     pub bytes: Bytes,
@@ -62,45 +62,51 @@ impl Report {
         }
     }
 
-    /// The lines of a section at rest, counted from 1, after those of the others.
+    /// The lines of a settled section, counted from 1, after those of the others.
     pub fn add_section<W: CyclicWave<Item = Value>>(
         &mut self,
         number: u32,
         section: &Section,
-        rest: &SectionAtRest<W>,
+        settling: &SettledSection<W>,
     ) -> Result<(), NoMemory>
         requires room { self.old.total + 458752 < 2 ^ 32 }
-        requires known { AreKnown rest.now.store rest.now.settled.numbers }
-        requires fit { FitWaves section.now.circuit (waves_at rest.now.store rest.now.settled.numbers) }
-        requires tick { rest.now.tick ≡ tick_of section.now.circuit
-            (rest_in rest.now.settled.rounds rest.now.store rest.now.settled.numbers) }
-        requires found { rest.now.faults ≡ faults_in section.now.circuit
-            (rest_in rest.now.settled.rounds rest.now.store rest.now.settled.numbers) }
-        requires few { length rest.now.faults ≤ 458752 }
-        ensures told { OnOk result (self.new.bytes ≡ self.old.bytes ++ section_lines number section.now
-            (rest_in rest.now.settled.rounds rest.now.store rest.now.settled.numbers)) }
-        ensures tick { OnOk result (self.new.tick ≡ max self.old.tick rest.now.tick) }
-        ensures counted { OnOk result (self.new.total ≡ self.old.total + length rest.now.faults) }
+        requires known { AreKnown settling.now.store settling.now.settled.numbers }
+        requires fit { FitWaves section.now.circuit
+            (waves_at settling.now.store settling.now.settled.numbers) }
+        requires tick { settling.now.tick ≡ tick_of section.now.circuit
+            (settling_in settling.now.settled.rounds settling.now.store
+            settling.now.settled.numbers) }
+        requires found { settling.now.faults ≡ faults_in section.now.circuit
+            (settling_in settling.now.settled.rounds settling.now.store
+            settling.now.settled.numbers) }
+        requires few { length settling.now.faults ≤ 458752 }
+        ensures told { OnOk result (self.new.bytes ≡ self.old.bytes
+            ++ section_lines number section.now
+            (settling_in settling.now.settled.rounds settling.now.store
+            settling.now.settled.numbers)) }
+        ensures tick { OnOk result (self.new.tick ≡ max self.old.tick settling.now.tick) }
+        ensures counted { OnOk result (self.new.total
+            ≡ self.old.total + length settling.now.faults) }
     {
         add_section(&mut self.bytes, number)?;
         begin_report(&section.circuit, section.version, &mut self.bytes)?;
         let head = CaseHead {
             number: 0,
-            base: rest.settled.rounds,
+            base: settling.settled.rounds,
             rounds: 0,
-            tick: rest.tick,
+            tick: settling.tick,
         };
-        let waves = Waves::new(rest.store.waves(), rest.settled.numbers.as_slice());
+        let waves = Waves::new(settling.store.waves(), settling.settled.numbers.as_slice());
         write_case(
             &section.circuit,
             head,
             &waves,
-            &rest.faults,
+            &settling.faults,
             Mode::Faults,
             &mut self.bytes,
         )?;
-        self.tick = max(self.tick, rest.tick);
-        self.total += rest.faults.len() as u32;
+        self.tick = max(self.tick, settling.tick);
+        self.total += settling.faults.len() as u32;
         Ok(())
     }
 
@@ -108,7 +114,8 @@ impl Report {
     pub fn end(self, sections: u32) -> Result<Reply<SectionsOutcome>, NoMemory>
         ensures outcome { IfOk result (λ reply. reply.outcome ≡ verdict_of self.total) }
         ensures bytes { IfOk result (λ reply.
-            reply.bytes ≡ self.bytes ++ (sections_line sections self.tick ++ last_line self.total)) }
+            reply.bytes ≡ self.bytes ++ (sections_line sections self.tick
+            ++ last_line self.total)) }
     {
         let Report {
             mut bytes,
@@ -148,7 +155,8 @@ pub fn refused(
     section: u32,
     refusal: Refusal,
 ) -> Result<Reply<SectionsOutcome>, NoMemory>
-    ensures outcome { IfOk result (λ reply. reply.outcome ≡ SectionsOutcome.Refused section refusal) }
+    ensures outcome { IfOk result (λ reply. reply.outcome
+        ≡ SectionsOutcome.Refused section refusal) }
     ensures bytes { IfOk result (λ reply. reply.bytes ≡ refused_lines section refusal) }
 {
     let mut bytes = Bytes::new(alloc);
@@ -169,7 +177,8 @@ pub fn unsettled(
     round: u32,
 ) -> Result<Reply<SectionsOutcome>, NoMemory>
     requires { net < length circuit.now.order }
-    ensures outcome { IfOk result (λ reply. reply.outcome ≡ SectionsOutcome.Unsettled section net round) }
+    ensures outcome { IfOk result (λ reply. reply.outcome
+        ≡ SectionsOutcome.Unsettled section net round) }
     ensures bytes { IfOk result (λ reply.
         reply.bytes ≡ section_line section ++ unsettled_line circuit.now net round) }
 {
@@ -190,7 +199,8 @@ pub fn unsettled(
 #[tactic(auto, unfolding(crate::specs::Lines::broken_line))]
 fn add_broken(out: &mut Bytes, broken: Broken) -> Result<(), NoMemory>
     requires { is_of_net broken.rule ≡ false }
-    ensures { (c : Whole) → OnOk result (out.new ≡ out.old ++ broken_line broken.rule broken.section c broken.net) }
+    ensures { (c : Whole) →
+        OnOk result (out.new ≡ out.old ++ broken_line broken.rule broken.section c broken.net) }
 {
     add_line(
         out,
@@ -236,7 +246,8 @@ pub fn bad_section(
 ) -> Result<Reply<SectionsOutcome>, NoMemory>
     requires { is_of_net broken.rule ≡ true → broken.net < length circuit.now.order }
     ensures outcome { IfOk result (λ reply.
-        reply.outcome ≡ SectionsOutcome.BadSection broken.section (number_of broken.rule) broken.net) }
+        reply.outcome ≡ SectionsOutcome.BadSection broken.section
+        (number_of broken.rule) broken.net) }
     ensures bytes { IfOk result (λ reply.
         reply.bytes ≡ broken_line broken.rule broken.section circuit.now broken.net) }
 {

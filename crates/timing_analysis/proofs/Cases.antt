@@ -1,11 +1,11 @@
--- The cases of a drawing one after the other: those so far are at rest, or one is the first that never rests.
+-- The cases of a drawing one after the other: those so far have settled, or one is the first that never settles.
 use Rattle.std.proofs.Common.{◌≡◌, ℕ, suc, ◌+◌, ◌<◌, List, [], ◌∷◌, ◌++◌, length, take, drop, refl, sym, ap, ◌∙◌, arith}
 use Rattle.std.proofs.lemmas.List.{map_push, take-append-drop, drop_more, length-take-le}
 use Rattle.std.proofs.lemmas.List.Elements.{All-nil, All-push}
 use Rattle.flat_circuit.specs.declared.case.CaseValue.{CaseValue}
 use Rattle.flat_circuit.specs.Circuit.{Circuit}
 use Rattle.case_analysis.specs.Case.{case_at}
-use Rattle.timing_analysis.specs.Case.{Listed, Case, IsAtRest, AreAtRest, NeverRests, StopsAt, numbered}
+use Rattle.timing_analysis.specs.Case.{Listed, Case, IsSettled, AreSettled, NeverSettles, StopsAt, numbered}
 
 -- ---- numbers of cases
 
@@ -41,31 +41,31 @@ module _ (cases : List (List CaseValue)) (k : ℕ) (inside : k < length cases) w
       ap (λ (xs : List (List CaseValue)). take k cases ++ xs) (sym (drop_more cases k [] inside))
       ∙ take-append-drop k cases
 
--- ---- cases at rest
+-- ---- settled cases
 
 module _ (c : Circuit) (limit base : ℕ) where
-  pub none_at_rest : AreAtRest c limit base [] []
-  none_at_rest = record { each = refl; rest = All-nil (IsAtRest c limit base) }
+  pub none_settled : AreSettled c limit base [] []
+  none_settled = record { each = refl; settled = All-nil (IsSettled c limit base) }
 
-  pub one_more_at_rest : (listed : List Listed) (l : Listed) (cases : List Case) (case : Case) →
-      AreAtRest c limit base listed cases → case.listed ≡ l → IsAtRest c limit base case →
-      AreAtRest c limit base (listed ++ l ∷ []) (cases ++ case ∷ [])
-  one_more_at_rest listed l cases case at_rest is rests = record {
+  pub one_more_settled : (listed : List Listed) (l : Listed) (cases : List Case) (case : Case) →
+      AreSettled c limit base listed cases → case.listed ≡ l → IsSettled c limit base case →
+      AreSettled c limit base (listed ++ l ∷ []) (cases ++ case ∷ [])
+  one_more_settled listed l cases case are_settled is settles = record {
     each =
         map_push (λ (k : Case). k.listed) cases case
-        ∙ ap (λ (ls : List Listed). ls ++ case.listed ∷ []) at_rest.each
+        ∙ ap (λ (ls : List Listed). ls ++ case.listed ∷ []) are_settled.each
         ∙ ap (λ (k : Listed). listed ++ k ∷ []) is;
-    rest = All-push (IsAtRest c limit base) cases case at_rest.rest rests;
+    settled = All-push (IsSettled c limit base) cases case are_settled.settled settles;
   }
 
-  pub first_that_never_rests : (listed all after : List Listed) (l : Listed) (cases : List Case) (place : ℕ) →
-      AreAtRest c limit base listed cases → listed ++ l ∷ after ≡ all → NeverRests c limit base l place →
+  pub first_that_never_settles : (listed all after : List Listed) (l : Listed) (cases : List Case) (place : ℕ) →
+      AreSettled c limit base listed cases → listed ++ l ∷ after ≡ all → NeverSettles c limit base l place →
       StopsAt c limit base all place
-  first_that_never_rests listed all after l cases place at_rest order never = record {
+  first_that_never_settles listed all after l cases place are_settled order never = record {
     before = cases;
     case = l;
     after = after;
-    order = ap (λ (ls : List Listed). ls ++ l ∷ after) at_rest.each ∙ order;
-    rest = at_rest.rest;
+    order = ap (λ (ls : List Listed). ls ++ l ∷ after) are_settled.each ∙ order;
+    settled = are_settled.settled;
     never = never;
   }

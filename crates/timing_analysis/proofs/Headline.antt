@@ -1,4 +1,4 @@
--- What has no fault in waves at rest is never broken.
+-- What has no fault in settled waves is never broken.
 use Rattle.std.proofs.Common.{◌≡◌, ℕ, ◌+◌, ◌*◌, ◌<◌, ◌≤◌, Bool, true, false, List, [], ◌∷◌, ◌++◌, length, refl, sym, ap, ◌∙◌, arith}
 use Rattle.std.specs.Prelude.{◌||◌}
 use Rattle.std.specs.List.{All, list_any}
@@ -38,7 +38,7 @@ none_first test fs gs all e none = or_left (list_any test fs) (list_any test gs)
 none_second : (test : Fault → Bool) (fs gs all : List Fault) → all ≡ fs ++ gs → list_any test all ≡ false → list_any test gs ≡ false
 none_second test fs gs all e none = or_right (list_any test fs) (list_any test gs) (sym (list_any-append test fs gs) ∙ ap (list_any test) (sym e) ∙ none)
 
--- the printed tick lies a reach less one tick after the tick from which on the waves at rest permit the nets
+-- the printed tick lies a reach less one tick after the tick from which on the settled waves permit the nets
 printed_after : (b r n : ℕ) → (b + r) * n + 1 + n ≤ (b + r + 1) * n + 1
 printed_after b r n = omega arith
 
@@ -87,9 +87,9 @@ pub faultless_is_safe : (c : Circuit) (values : List (List CaseValue)) (limit : 
     IsSafe c values limit (IsUnbroken c)
 faultless_is_safe c values limit safe none = record {
   base = safe.base;
-  rests = safe.rests;
+  settles = safe.settles;
   cases = safe.cases;
-  at_rest = safe.at_rest;
+  are_settled = safe.are_settled;
   each = all_unbroken c safe.base safe.cases none safe.each;
 }
 

@@ -5,9 +5,9 @@ pub mod Placed
 pub mod Reading
 pub mod Counts
 pub mod Reached
-pub mod OneRest
+pub mod SettlesOneWay
 pub mod Headline
-pub mod Rest
+pub mod Settling
 pub mod Cases
 pub mod Ends
 mod Examples

@@ -10,7 +10,7 @@ use Rattle.flat_circuit.specs.Circuit.{Circuit, driver}
 use Rattle.flat_circuit.specs.Run.{Run}
 use Rattle.fixpoint_engine.specs.Waves.{Waves}
 use Rattle.fixpoint_engine.specs.Reach.{reach}
-use Rattle.fixpoint_engine.specs.Rounds.{RestsAt, next, round, wave_from}
+use Rattle.fixpoint_engine.specs.Rounds.{SettlesAt, next, round, wave_from}
 use Rattle.fixpoint_engine.specs.Start.{base_start, is_driven}
 use Rattle.case_analysis.specs.Base.{base_round}
 use Rattle.case_analysis.specs.Case.{IsInCase, case_active, case_round, case_start}
@@ -18,9 +18,9 @@ use Rattle.case_analysis.specs.Tick.{tick}
 use Rattle.pulse_check.specs.Break.{BreaksPulse}
 use Rattle.pulse_check.proofs.Broken.{breaks_high, breaks_low, circuit, is_run, meets, run}
 use Rattle.timing_analysis.specs.Drawn.{DrawsCircuit}
-use Rattle.timing_analysis.specs.Case.{Case, IsAtRest, Listed, listed_cases, printed_tick}
+use Rattle.timing_analysis.specs.Case.{Case, IsSettled, Listed, listed_cases, printed_tick}
 use Rattle.timing_analysis.specs.Promise.{Breaks, by_instance, by_pulse, by_net, IsSafe, IsUnbroken, NeverBreaks}
-use Rattle.timing_analysis.proofs.OneRest.{one_rest}
+use Rattle.timing_analysis.proofs.SettlesOneWay.{settles_once}
 use Rattle.timing_analysis.proofs.OneText.{text_draws_one_circuit}
 
 -- ---- a circuit that is broken from its printed tick on, which is 1
@@ -54,7 +54,7 @@ same_by : (active : Bool) (d : Option Instance) (ws : Waves) (i : ℕ) → d ≡
 same_by true d ws i none = ap (λ (o : Option Instance). wave_from circuit ws o (ws i)) none
 same_by false d ws i none = refl
 
-settled_at_once : (active : ℕ → Bool) (start : Waves) → RestsAt (round circuit active start) 0 0
+settled_at_once : (active : ℕ → Bool) (start : Waves) → SettlesAt (round circuit active start) 0 0
 unfolding round next
 settled_at_once active start = record {
   still = λ i. same_by (active i) (driver circuit i) start i (undriven i);
@@ -63,13 +63,13 @@ settled_at_once active start = record {
 }
 
 breaks_in : (limit base : ℕ) (cases : List Case) → base ≡ 0 → map (λ (k : Case). k.listed) cases ≡ listed_cases [] →
-    All (IsAtRest circuit limit base) cases → All (IsUnbroken circuit base) cases → ⊥
-breaks_in limit base [] none each at_rest unbroken = absurd (cc)
-breaks_in limit base (case ∷ cases) none each at_rest unbroken =
+    All (IsSettled circuit limit base) cases → All (IsUnbroken circuit base) cases → ⊥
+breaks_in limit base [] none each are_settled unbroken = absurd (cc)
+breaks_in limit base (case ∷ cases) none each are_settled unbroken =
     let listed : case.listed ≡ record { number = 0; values = [] } = cc in
-    let at : IsAtRest circuit limit base case = All-head (IsAtRest circuit limit base) case cases at_rest in
+    let at : IsSettled circuit limit base case = All-head (IsSettled circuit limit base) case cases are_settled in
     let settled : case.rounds ≡ 0 =
-    one_rest (case_round circuit case.listed.values at.cone (base_round circuit base)) limit 0 case.rounds 0 at.is.rests
+    settles_once (case_round circuit case.listed.values at.cone (base_round circuit base)) limit 0 case.rounds 0 at.is.settles
     (settled_at_once (case_active circuit at.cone) (case_start circuit case.listed.values at.cone (base_round circuit base))) in
     breaks_at true base case breaks_high none settled (ap (λ (l : Listed). l.values) listed)
     (All-head (IsUnbroken circuit base) case cases unbroken)
@@ -81,8 +81,8 @@ text_breaks text drawn p =
     subst (λ (c : Circuit). IsSafe c [] p.limit (IsUnbroken c)) same.0
     (subst (λ (vs : List (List CaseValue)). IsSafe p.circuit vs p.limit (IsUnbroken p.circuit)) same.1 p.never) in
     let none : safe.base ≡ 0 =
-    one_rest (base_round circuit) p.limit 0 safe.base 0 safe.rests (settled_at_once (is_driven circuit) (base_start circuit)) in
-    breaks_in p.limit safe.base safe.cases none safe.at_rest.each safe.at_rest.rest safe.each
+    settles_once (base_round circuit) p.limit 0 safe.base 0 safe.settles (settled_at_once (is_driven circuit) (base_start circuit)) in
+    breaks_in p.limit safe.base safe.cases none safe.are_settled.each safe.are_settled.settled safe.each
 
 -- ---- no element and no net
 

@@ -24,7 +24,8 @@ abbrev pub numbered : ℕ → List (List CaseValue) → List Listed
 numbered from [] = []
 numbered from (vs ∷ cases) = record { number = from; values = vs } ∷ numbered (from + 1) cases
 
--- A drawing's cases count from 1. Where it has none there is one case, of number 0, in which no net is set.
+-- A drawing's cases count from 1. Where it has none there is one case, of number 0, in which no net
+-- is set.
 abbrev pub listed_cases : List (List CaseValue) → List Listed
 listed_cases [] = record { number = 0; values = [] } ∷ []
 listed_cases (vs ∷ cases) = numbered 1 (vs ∷ cases)
@@ -37,33 +38,34 @@ pub record Case : Type 0 where
   pub rounds : ℕ
   pub waves : Waves
 
--- The case's rounds start from a base that settled in this round; they settle in the round that is given, and
--- within the limit, with the waves that are given.
-pub record IsAtRest (c : Circuit) (limit base : ℕ) (case : Case) : Type 0 where
+-- The case's rounds start from a base that settled in this round; they settle in the round that is
+-- given, and within the limit, with the waves that are given.
+pub record IsSettled (c : Circuit) (limit base : ℕ) (case : Case) : Type 0 where
   pub cone : ℕ → Bool
   pub is_cone : IsCone c case.listed.values cone
   pub is : IsCase c case.listed.values cone (base_round c base) limit case.rounds case.waves
 
 -- these cases, one after the other, settled
-pub record AreAtRest (c : Circuit) (limit base : ℕ) (listed : List Listed) (cases : List Case) : Type 0 where
+pub record AreSettled (c : Circuit) (limit base : ℕ) (listed : List Listed)
+    (cases : List Case) : Type 0 where
   pub each : map (λ (case : Case). case.listed) cases ≡ listed
-  pub rest : All (IsAtRest c limit base) cases
+  pub settled : All (IsSettled c limit base) cases
 
--- The case does not settle within the limit, and at the limit the net at this place in name order is the
--- first that still changes.
-pub record NeverRests (c : Circuit) (limit base : ℕ) (listed : Listed) (place : ℕ) : Type 0 where
+-- The case does not settle within the limit, and at the limit the net at this place in name order
+-- is the first that still changes.
+pub record NeverSettles (c : Circuit) (limit base : ℕ) (listed : Listed) (place : ℕ) : Type 0 where
   pub cone : ℕ → Bool
   pub is_cone : IsCone c listed.values cone
   pub is : IsUnsettled c.order (case_round c listed.values cone (base_round c base)) limit place
 
--- Of the cases in their order, this one is the first that never rests.
+-- Of the cases in their order, this one is the first that never settles.
 pub record StopsAt (c : Circuit) (limit base : ℕ) (listed : List Listed) (place : ℕ) : Type 0 where
   pub before : List Case
   pub case : Listed
   pub after : List Listed
   pub order : map (λ (k : Case). k.listed) before ++ case ∷ after ≡ listed
-  pub rest : All (IsAtRest c limit base) before
-  pub never : NeverRests c limit base case place
+  pub settled : All (IsSettled c limit base) before
+  pub never : NeverSettles c limit base case place
 
 -- ---- their faults
 

@@ -1,17 +1,17 @@
--- Laws of circuits at rest.
+-- Laws of settled circuits.
 use Rattle.std.specs.Prelude.{◌≡◌, ℕ, List, []}
 use Rattle.flat_circuit.specs.Circuit.{Circuit}
-use Rattle.fixpoint_engine.specs.Rounds.{RestsAt}
+use Rattle.fixpoint_engine.specs.Rounds.{SettlesAt}
 use Rattle.case_analysis.specs.Base.{base_round}
-use Rattle.timing_analysis.specs.Case.{Listed, Case, AreAtRest, faults}
+use Rattle.timing_analysis.specs.Case.{Listed, Case, AreSettled, faults}
 use Rattle.timing_analysis.specs.Promise.{IsKept, IsUnbroken}
 
--- A circuit and its cases come to rest in one way, whatever the limits are.
-abbrev pub OneRest : Type 0
-OneRest =
+-- A circuit and its cases settle in one way, whatever the limits are.
+abbrev pub SettlesOneWay : Type 0
+SettlesOneWay =
     (c : Circuit) (limit limit' base base' : ℕ) (listed : List Listed) (cases cases' : List Case) →
-    RestsAt (base_round c) limit base → AreAtRest c limit base listed cases →
-    RestsAt (base_round c) limit' base' → AreAtRest c limit' base' listed cases' →
+    SettlesAt (base_round c) limit base → AreSettled c limit base listed cases →
+    SettlesAt (base_round c) limit' base' → AreSettled c limit' base' listed cases' →
     (base ≡ base') × (cases ≡ cases')
 
 -- Where nothing without a fault is broken in a case, nothing is broken in a case without a fault.

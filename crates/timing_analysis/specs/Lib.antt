@@ -4,6 +4,6 @@ pub mod Subject
 pub mod Case
 pub mod Known
 pub mod Promise
-pub mod Rested
+pub mod Settled
 pub mod Ended
 pub mod Laws

@@ -1,10 +1,10 @@
-//! Laws of circuits at rest. The functions do nothing: what each states is its contract.
+//! Laws of settled circuits. The functions do nothing: what each states is its contract.
 
-ghost use Rattle.timing_analysis.specs.Laws.{FaultlessIsUnbroken, OneRest};
+ghost use Rattle.timing_analysis.specs.Laws.{FaultlessIsUnbroken, SettlesOneWay};
 
-/// A circuit and its cases come to rest in one way, whatever the limits of rounds are.
-pub fn circuits_have_one_rest()
-    ensures { OneRest }
+/// A circuit and its cases settle in one way, whatever the limits of rounds are.
+pub fn circuits_settle_one_way()
+    ensures { SettlesOneWay }
 {}
 
 /// Where nothing without a fault is broken in a case, nothing is broken in a case without a fault.

@@ -1,13 +1,13 @@
 //! From a text to the circuit that it draws, its settled waves, their faults, and what never breaks
 //! in any run.
 //!
-//! The layer above calls [`read_circuit`], or [`read_text`] and then [`circuit_of`] where the drawing
-//! itself is wanted, makes a [`Subject`] of what the text draws, and asks it for the settled base and
-//! then for one case after the other. `specs/Drawn` says which circuit and cases a text draws and why
-//! one is refused, `specs/Rested` what comes of settling: which waves, which faults, from which tick on,
-//! and `specs/Ended` why nothing settles. `specs/Promise` says that what has no fault is never broken in
-//! a run from that tick on. [`circuit_laws`] has that a text draws one circuit or is refused in one
-//! way, and [`laws`] that a circuit settles in one way.
+//! The layer above calls [`read_circuit`], or [`read_text`] and then [`circuit_of`] where the
+//! drawing itself is wanted, makes a [`Subject`] of what the text draws, and asks it for the
+//! settled base and then for one case after the other. `specs/Drawn` says which circuit and cases a
+//! text draws and why one is refused, `specs/Settled` what comes of settling: which waves, which
+//! faults, from which tick on, and `specs/Ended` why nothing settles. `specs/Promise` says that
+//! what has no fault is never broken in a run from that tick on. [`circuit_laws`] has that a text
+//! draws one circuit or is refused in one way, and [`laws`] that a circuit settles in one way.
 #![tactic(auto)]
 
 // from a text to its circuit
@@ -17,10 +17,10 @@ mod drawn;
 // from a circuit to its faults
 mod case_faults;
 pub mod laws;
-mod rested;
+mod settled;
 mod subject;
 
 pub use case_faults::{KnownFaults, faults};
 pub use drawn::{Drawn, circuit_of, read_circuit, read_text};
-pub use rested::{CaseAtRest, Rested};
+pub use settled::{SettledBase, SettledCase};
 pub use subject::Subject;

@@ -10,7 +10,7 @@ use Rattle.fixpoint_engine.specs.Key.{AreConstants}
 use Rattle.fixpoint_engine.specs.Members.{evaluations_to, numbers_in}
 use Rattle.fixpoint_engine.specs.End.{EndsFor}
 use Rattle.fixpoint_engine.specs.Rounds.{round}
-use Rattle.fixpoint_engine.specs.Settled.{AreAtRest, marked_in}
+use Rattle.fixpoint_engine.specs.Settled.{AreSettled, marked_in}
 use Rattle.fixpoint_engine.specs.Start.{base_start, is_driven}
 use Rattle.fixpoint_engine.proofs.Kept.{each_stands}
 use Rattle.fixpoint_engine.proofs.Numbered.{constants_still}
@@ -52,16 +52,16 @@ settle-requires-clause-classes g c =
           (driven_together circuit c.args.cases.now ks c.known.ensures stable),
     )))
 
-pub returns-clause-rest : goal.returns-clause-rest
-returns-clause-rest g c =
+pub returns-clause-settled : goal.returns-clause-settled
+returns-clause-settled g c =
     as_base c.args.c.now (marked_in c.in_ok-active.active) (waves_of (waves_at c.start_numbers.new.store c.in_ok-start.start))
-    (λ active first. IfOk c.settle.result (λ s. AreAtRest c.args.c.now active first c.args.limit s.rounds (waves_of (waves_at c.settle.new.store s.numbers))))
+    (λ active first. IfOk c.settle.result (λ s. AreSettled c.args.c.now active first c.args.limit s.rounds (waves_of (waves_at c.settle.new.store s.numbers))))
     c.in_ok-active.ensures.driven (λ k i. c.in_ok-start.ensures.is i k)
-    c.settle.ensures.rest
+    c.settle.ensures.settled
 
 pub returns-clause-within : goal.returns-clause-within
 returns-clause-within g c = in_time c.settle.result c.args.c.now (marked_in c.in_ok-active.active)
-    (waves_of (waves_at c.start_numbers.new.store c.in_ok-start.start)) c.args.limit (λ s. s.rounds) (λ s. waves_of (waves_at c.settle.new.store s.numbers)) c.settle.ensures.rest
+    (waves_of (waves_at c.start_numbers.new.store c.in_ok-start.start)) c.args.limit (λ s. s.rounds) (λ s. waves_of (waves_at c.settle.new.store s.numbers)) c.settle.ensures.settled
 
 pub returns-clause-work : goal.returns-clause-work
 returns-clause-work g c =
@@ -92,4 +92,4 @@ returns-clause-unsettled g c =
 pub returns-clause-loopless : goal.returns-clause-loopless
 returns-clause-loopless g c none within =
     soon c.settle.result c.args.c.now (marked_in c.in_ok-active.active) (waves_of (waves_at c.start_numbers.new.store c.in_ok-start.start)) c.args.limit (λ s. s.rounds) (λ s. waves_of (waves_at c.settle.new.store s.numbers))
-    c.known.ensures none within c.settle.ensures.rest c.settle.ensures.unsettled
+    c.known.ensures none within c.settle.ensures.settled c.settle.ensures.unsettled

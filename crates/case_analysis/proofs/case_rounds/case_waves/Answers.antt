@@ -10,12 +10,12 @@ use Rattle.fixpoint_engine.specs.Hearers.{AreHearers}
 use Rattle.fixpoint_engine.specs.Members.{evaluations_to, numbers_in}
 use Rattle.fixpoint_engine.specs.End.{EndsFor}
 use Rattle.fixpoint_engine.specs.Rounds.{round}
-use Rattle.fixpoint_engine.specs.Settled.{AreAtRest, marked_in}
+use Rattle.fixpoint_engine.specs.Settled.{AreSettled, marked_in}
 use Rattle.case_analysis.specs.Case.{IsCone, NetsExist, case_active, case_at, case_start}
 use Rattle.case_analysis.proofs.Inputs.{base_permits}
 use Rattle.fixpoint_engine.proofs.Kept.{each_stands}
 use Rattle.case_analysis.proofs.Cases.{active_fits, in_cone}
-use Rattle.case_analysis.proofs.Answered.{case_ends, case_keeps, case_rests, in_time, soon}
+use Rattle.case_analysis.proofs.Answered.{case_ends, case_keeps, case_settles, in_time, soon}
 use Rattle.case_analysis.proofs.Together.{active_together, as_one_wave, as_together, base_together}
 use Rattle.case_analysis.proofs.Together.{case_together, cone_together}
 use Rattle.case_analysis.proofs.case_rounds.case_waves.Goals as goal
@@ -60,23 +60,23 @@ settle-requires-clause-classes g c =
           together),
     )))
 
-pub returns-clause-rest : goal.returns-clause-rest
-returns-clause-rest g c = rw (← c.case_at-case.ensures) (
-    case_rests c.args.c.now c.case_at-case.result.now (marked_in c.in_ok-cone.cone)
+pub returns-clause-settled : goal.returns-clause-settled
+returns-clause-settled g c = rw (← c.case_at-case.ensures) (
+    case_settles c.args.c.now c.case_at-case.result.now (marked_in c.in_ok-cone.cone)
     (marked_in c.in_ok-active.active)
     (waves_of (waves_at c.args.store.now c.args.base.now.numbers))
     (waves_of (waves_at c.start_numbers.new.store c.in_ok-start.start))
     c.in_ok-cone.ensures.is c.in_ok-active.ensures.is c.in_ok-start.ensures.is c.settle.result
-    (λ active first s. AreAtRest c.args.c.now active first c.args.limit s.rounds
-    (waves_of (waves_at c.settle.new.store s.numbers))) c.settle.ensures.rest)
+    (λ active first s. AreSettled c.args.c.now active first c.args.limit s.rounds
+    (waves_of (waves_at c.settle.new.store s.numbers))) c.settle.ensures.settled)
 
 pub returns-clause-within : goal.returns-clause-within
 returns-clause-within g c = in_time c.settle.result c.args.c.now (marked_in c.in_ok-active.active)
-    (waves_of (waves_at c.start_numbers.new.store c.in_ok-start.start)) c.args.limit (λ s. s.rounds) (λ s. waves_of (waves_at c.settle.new.store s.numbers)) c.settle.ensures.rest
+    (waves_of (waves_at c.start_numbers.new.store c.in_ok-start.start)) c.args.limit (λ s. s.rounds) (λ s. waves_of (waves_at c.settle.new.store s.numbers)) c.settle.ensures.settled
 
 pub returns-clause-work : goal.returns-clause-work
 returns-clause-work g c = rw (← c.case_at-case.ensures) (
-    case_rests c.args.c.now c.case_at-case.result.now (marked_in c.in_ok-cone.cone)
+    case_settles c.args.c.now c.case_at-case.result.now (marked_in c.in_ok-cone.cone)
     (marked_in c.in_ok-active.active)
     (waves_of (waves_at c.args.store.now c.args.base.now.numbers))
     (waves_of (waves_at c.start_numbers.new.store c.in_ok-start.start))
@@ -113,7 +113,7 @@ returns-clause-unsettled g c = rw (← c.case_at-case.ensures) (
 pub returns-clause-loopless : goal.returns-clause-loopless
 returns-clause-loopless g c none within =
     soon c.settle.result c.args.c.now (marked_in c.in_ok-active.active) (waves_of (waves_at c.start_numbers.new.store c.in_ok-start.start)) c.args.limit (λ s. s.rounds) (λ s. waves_of (waves_at c.settle.new.store s.numbers))
-    c.known.ensures none within c.settle.ensures.rest c.settle.ensures.unsettled
+    c.known.ensures none within c.settle.ensures.settled c.settle.ensures.unsettled
 
 pub returns-clause-cone : goal.returns-clause-cone
 returns-clause-cone g c =

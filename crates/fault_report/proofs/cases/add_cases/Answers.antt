@@ -22,11 +22,11 @@ loop-place-init c =
     record {
       going = record {
         told_so_far =
-            told_start (HasExplained (drawing_of c.args.drawing.now)) c.args.subject.now.circuit c.args.limit c.args.rested.now.base.rounds
+            told_start (HasExplained (drawing_of c.args.drawing.now)) c.args.subject.now.circuit c.args.limit c.args.settled_base.now.base.rounds
             c.args.kept.now c.requires.told;
         is_ready = omega (arith, none);
       };
-      rest = c.requires.rest;
+      settled = c.requires.settled;
       same = refl;
     }
 
@@ -40,37 +40,37 @@ add_case-requires-clause-few c =
 
 pub add_case-requires-clause-fit : goal.add_case-requires-clause-fit
 add_case-requires-clause-fit c =
-    let same : c.new-waves.result ≡ waves_at c.case.new.rested.store c.in_ok-case.case.settled.numbers =
-    c.new-waves.ensures ∙ ap (λ t. waves_at t c.as_slice.result.now) c.waves.ensures ∙ ap (waves_at c.case.new.rested.store) c.as_slice.ensures in
-    subst (FitWaves c.args.subject.now.circuit) (sym same) c.in_ok-case.ensures.rest.rest.fit
+    let same : c.new-waves.result ≡ waves_at c.case.new.settled_base.store c.in_ok-case.case.settled.numbers =
+    c.new-waves.ensures ∙ ap (λ t. waves_at t c.as_slice.result.now) c.waves.ensures ∙ ap (waves_at c.case.new.settled_base.store) c.as_slice.ensures in
+    subst (FitWaves c.args.subject.now.circuit) (sym same) c.in_ok-case.ensures.settled.settled.fit
 
 pub add_case-requires-clause-found : goal.add_case-requires-clause-found
 add_case-requires-clause-found c =
-    let same : c.new-waves.result ≡ waves_at c.case.new.rested.store c.in_ok-case.case.settled.numbers =
-    c.new-waves.ensures ∙ ap (λ t. waves_at t c.as_slice.result.now) c.waves.ensures ∙ ap (waves_at c.case.new.rested.store) c.as_slice.ensures in
-    c.in_ok-case.ensures.rest.rest.found
+    let same : c.new-waves.result ≡ waves_at c.case.new.settled_base.store c.in_ok-case.case.settled.numbers =
+    c.new-waves.ensures ∙ ap (λ t. waves_at t c.as_slice.result.now) c.waves.ensures ∙ ap (waves_at c.case.new.settled_base.store) c.as_slice.ensures in
+    c.in_ok-case.ensures.settled.settled.found
     ∙ ap (λ (ws : List (Wave Value)). faults_of c.args.subject.now.circuit (waves_of ws)) (sym same)
 
 pub add_case-requires-clause-count : goal.add_case-requires-clause-count
-add_case-requires-clause-count c = c.in_ok-case.ensures.rest.rest.few
+add_case-requires-clause-count c = c.in_ok-case.ensures.settled.settled.few
 
 pub add_case-requires-clause-within : goal.add_case-requires-clause-within
 add_case-requires-clause-within c =
-    let same : c.new-waves.result ≡ waves_at c.case.new.rested.store c.in_ok-case.case.settled.numbers =
-    c.new-waves.ensures ∙ ap (λ t. waves_at t c.as_slice.result.now) c.waves.ensures ∙ ap (waves_at c.case.new.rested.store) c.as_slice.ensures in
-    within_case c.faults_are_within.ensures c.args.subject.now.circuit c.args.limit c.loop-place.rested.base.rounds _ _ _ _ _ _ c.known.ensures
+    let same : c.new-waves.result ≡ waves_at c.case.new.settled_base.store c.in_ok-case.case.settled.numbers =
+    c.new-waves.ensures ∙ ap (λ t. waves_at t c.as_slice.result.now) c.waves.ensures ∙ ap (waves_at c.case.new.settled_base.store) c.as_slice.ensures in
+    within_case c.faults_are_within.ensures c.args.subject.now.circuit c.args.limit c.loop-place.settled_base.base.rounds _ _ _ _ _ _ c.known.ensures
     (subst IsHeader c.header.ensures c.known-2.ensures)
-    (read_case c.args.subject.now.circuit c.args.limit c.loop-place.rested.base.rounds _ _ _ _ _ c.new-waves.result _ same c.in_ok-case.ensures.rest.rest)
+    (read_case c.args.subject.now.circuit c.args.limit c.loop-place.settled_base.base.rounds _ _ _ _ _ c.new-waves.result _ same c.in_ok-case.ensures.settled.settled)
 
 pub returns-in_err-case-clause-ended : goal.returns-in_err-case-clause-ended
 returns-in_err-case-clause-ended c =
     let p = err_from_is_err_and c.from_residual.result c.from_residual.ensures.1 in
     let len = c.len-place-end.ensures in
     let inside = c.loop-place-test.true in
-    rw (p.1, p.2) (going_ends (HasExplained (drawing_of c.args.drawing.now)) IsReady c.args.subject.now.circuit c.args.limit c.args.rested.now.base.rounds
+    rw (p.1, p.2) (going_ends (HasExplained (drawing_of c.args.drawing.now)) IsReady c.args.subject.now.circuit c.args.limit c.args.settled_base.now.base.rounds
     c.args.subject.now.cases c.loop-place.place c.loop-place.kept
     (omega (arith, len, inside)) c.loop-place.invariant.going c.in_err-case.field-0.0
-    (ends_from c.args.subject.now.circuit c.args.limit c.args.rested.now.base.rounds c.loop-place.rested.base.rounds _ c.in_err-case.field-0.0
+    (ends_from c.args.subject.now.circuit c.args.limit c.args.settled_base.now.base.rounds c.loop-place.settled_base.base.rounds _ c.in_err-case.field-0.0
     c.loop-place.invariant.same c.in_err-case.ensures.unsettled))
 
 pub loop-place-preserved : goal.loop-place-preserved
@@ -79,18 +79,18 @@ loop-place-preserved c =
     let inside = c.loop-place-test.true in
     let ready = c.loop-place.invariant.going.is_ready in
     let more = c.in_ok-add_case.ensures.total in
-    let same : c.new-waves.result ≡ waves_at c.case.new.rested.store c.in_ok-case.case.settled.numbers =
-    c.new-waves.ensures ∙ ap (λ t. waves_at t c.as_slice.result.now) c.waves.ensures ∙ ap (waves_at c.case.new.rested.store) c.as_slice.ensures in
+    let same : c.new-waves.result ≡ waves_at c.case.new.settled_base.store c.in_ok-case.case.settled.numbers =
+    c.new-waves.ensures ∙ ap (λ t. waves_at t c.as_slice.result.now) c.waves.ensures ∙ ap (waves_at c.case.new.settled_base.store) c.as_slice.ensures in
     record {
       going =
-          going_more (HasExplained (drawing_of c.args.drawing.now)) IsReady c.args.subject.now.circuit c.args.limit c.args.rested.now.base.rounds
+          going_more (HasExplained (drawing_of c.args.drawing.now)) IsReady c.args.subject.now.circuit c.args.limit c.args.settled_base.now.base.rounds
           c.args.subject.now.cases c.loop-place.place c.loop-place.kept
           (omega (arith, len, inside)) c.loop-place.invariant.going _ _ _ _ _ _
-          (read_case c.args.subject.now.circuit c.args.limit c.args.rested.now.base.rounds _ _ _ _ _ c.new-waves.result _ same
-          (case_from c.args.subject.now.circuit c.args.limit c.args.rested.now.base.rounds c.loop-place.rested.base.rounds _ _ _ _ _ _
-          c.loop-place.invariant.same c.in_ok-case.ensures.rest.rest))
+          (read_case c.args.subject.now.circuit c.args.limit c.args.settled_base.now.base.rounds _ _ _ _ _ c.new-waves.result _ same
+          (case_from c.args.subject.now.circuit c.args.limit c.args.settled_base.now.base.rounds c.loop-place.settled_base.base.rounds _ _ _ _ _ _
+          c.loop-place.invariant.same c.in_ok-case.ensures.settled.settled))
           c.in_ok-add_case.ensures.told (omega (arith, ready, more));
-      rest = c.in_ok-case.ensures.kept;
+      settled = c.in_ok-case.ensures.kept;
       same = c.in_ok-case.ensures.round ∙ c.loop-place.invariant.same;
     }
 
@@ -101,4 +101,4 @@ returns-clause-told c =
     let whole : take c.loop-place.place c.args.subject.now.cases ≡ c.args.subject.now.cases =
     take_all c.loop-place.place c.args.subject.now.cases (omega (arith, len, past)) in
     subst (λ (xs : List (List CaseValue)). HasTold (HasExplained (drawing_of c.args.drawing.now)) c.loop-place.kept c.args.subject.now.circuit
-    c.args.limit c.args.rested.now.base.rounds (numbered 1 xs)) whole c.loop-place.invariant.going.told_so_far
+    c.args.limit c.args.settled_base.now.base.rounds (numbered 1 xs)) whole c.loop-place.invariant.going.told_so_far

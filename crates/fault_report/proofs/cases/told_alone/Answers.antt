@@ -6,7 +6,7 @@ use Rattle.skew_algebra.specs.Wave.{Wave}
 use Rattle.fixpoint_engine.specs.Table.{waves_at}
 use Rattle.fixpoint_engine.specs.Waves.{FitWaves, waves_of}
 use Rattle.timing_analysis.specs.Case.{faults_of}
-use Rattle.timing_analysis.specs.Rested.{IsCaseIn}
+use Rattle.timing_analysis.specs.Settled.{IsCaseIn}
 use Rattle.fault_report.proofs.CaseByCase.{told_start, told_read}
 use Rattle.fault_account.specs.Laws.{AreWithin}
 use Rattle.fault_report.specs.Report.{HasExplained}
@@ -42,5 +42,5 @@ returns c =
     (λ limit base l. IsCaseIn circuit limit base l case.number case.settled.rounds case.tick c.args.store.now case.settled.numbers case.faults)
     (λ limit base l is. told_read (λ (v : ℕ). HasExplained d) circuit c.in_ok-kept.kept c.add_case.new.self
     case.number case.settled.rounds case.tick _ c.new-waves.result case.faults same (λ (v : ℕ). c.in_ok-add_case.ensures.told)
-    0 limit base [] l (told_start (HasExplained d) circuit limit base c.in_ok-kept.kept c.in_ok-kept.ensures.told) is.rest)
+    0 limit base [] l (told_start (HasExplained d) circuit limit base c.in_ok-kept.kept c.in_ok-kept.ensures.told) is.settled)
     c.end.result c.end.ensures.outcome c.end.ensures.bytes

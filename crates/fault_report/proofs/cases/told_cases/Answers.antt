@@ -11,5 +11,5 @@ returns-in_err-add_cases-clause-ended c =
 
 pub returns-clause-told : goal.returns-clause-told
 returns-clause-told c =
-    explained_done (drawing_of c.args.drawing.now) c.args.subject.now.circuit c.args.limit c.args.rested.now.base.rounds
+    explained_done (drawing_of c.args.drawing.now) c.args.subject.now.circuit c.args.limit c.args.settled_base.now.base.rounds
     (numbered 1 c.args.subject.now.cases) c.add_cases.new.kept c.in_ok-add_cases.ensures.told _ _ c.in_ok-end.ensures.outcome c.in_ok-end.ensures.bytes

@@ -19,7 +19,7 @@ returns-in-Ok-told_of c =
     accepted c.args.text.now _ c.args.subject.now.circuit c.args.subject.now.cases c.default_limit-limit.result _ _
     c.in-Ok.ensures.drawn c.requires.draws c.default_limit-limit.ensures.is
     (concluded_told (explained _) c.args.subject.now.circuit c.args.subject.now.cases c.default_limit-limit.result c.in-Ok-told_of.told.base _ _
-    c.in-Ok-told_of.ensures.rests c.in-Ok-told_of.ensures.told)
+    c.in-Ok-told_of.ensures.settles c.in-Ok-told_of.ensures.told)
 
 pub returns-in-Ok : goal.returns-in-Ok
 returns-in-Ok c =

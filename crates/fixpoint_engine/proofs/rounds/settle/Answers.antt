@@ -8,7 +8,7 @@ use Rattle.fixpoint_engine.specs.Table.{AreKnown, wave_at, waves_at}
 use Rattle.fixpoint_engine.proofs.Growing.{grows_none, grows_trans, known_still, same_waves}
 use Rattle.fixpoint_engine.specs.Waves.{FitWaves, waves_of}
 use Rattle.flat_circuit.specs.Circuit.{driver}
-use Rattle.fixpoint_engine.specs.Settled.{AreAtRest, KeepRuns, marked_in}
+use Rattle.fixpoint_engine.specs.Settled.{AreSettled, KeepRuns, marked_in}
 use Rattle.fixpoint_engine.specs.Rounds.{round}
 use Rattle.fixpoint_engine.specs.Work.{hears_in}
 use Rattle.fixpoint_engine.specs.Worklist.{Change, changed, changes_of}
@@ -18,7 +18,7 @@ use Rattle.fixpoint_engine.proofs.Alone.{each_numbered, evaluated_first, evaluat
 use Rattle.fixpoint_engine.proofs.Firsts.{made_all, waiting_lead, firsts_below, none_for_all}
 use Rattle.fixpoint_engine.proofs.Firsts.{some_for_all, some_read, heard_for_all}
 use Rattle.fixpoint_engine.proofs.Kept.{kept_start, kept_more, made_of, waiting_exist, made_exist}
-use Rattle.fixpoint_engine.proofs.Kept.{rests, works, keeps, ends_by}
+use Rattle.fixpoint_engine.proofs.Kept.{settles, works, keeps, ends_by}
 use Rattle.fixpoint_engine.proofs.Keys.{each_number}
 use Rattle.fixpoint_engine.proofs.Numbered.{constants_still, grows_cut}
 use Rattle.fixpoint_engine.proofs.rounds.settle.Goals as goal
@@ -66,8 +66,8 @@ changes-requires-clause-constants g c =
     constants_still c.args.c.now.header c.args.store.now c.rounds.store c.args.constants
     c.rounds.invariant.grows c.requires.constants
 
-pub returns-then-is_empty-clause-rest : goal.returns-then-is_empty-clause-rest
-returns-then-is_empty-clause-rest g c =
+pub returns-then-is_empty-clause-settled : goal.returns-then-is_empty-clause-settled
+returns-then-is_empty-clause-settled g c =
     let active = marked_in c.args.active.now in
     let classes = option_copied c.args.classes in
     let numbers = numbers_in (length c.args.c.now.nets) classes in
@@ -81,9 +81,9 @@ returns-then-is_empty-clause-rest g c =
     let firsts = c.in_ok-made.ensures.made
     ∙ ap (λ ns. changes_of c.args.c.now (waves_of (waves_at c.rounds.store ns))
     c.nets.result.now) c.as_slice-now.ensures in
-    subst (λ ws. AreAtRest c.args.c.now active start c.args.limit c.rounds.rounds (waves_of ws))
+    subst (λ ws. AreSettled c.args.c.now active start c.args.limit c.rounds.rounds (waves_of ws))
     (sym same)
-    (rests c.args.c.now active numbers start c.requires.classes waves c.rounds.queue c.rounds.rounds
+    (settles c.args.c.now active numbers start c.requires.classes waves c.rounds.queue c.rounds.rounds
     c.rounds.evals
     c.rounds.invariant.kept all
     (made_of c.args.c.now active classes start

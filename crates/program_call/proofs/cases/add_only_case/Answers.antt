@@ -8,7 +8,7 @@ returns-then-not-is_empty-clause-ready g c = (length c.args.subject.now.cases, c
 
 pub returns-then-not-is_empty-clause-holds : goal.returns-then-not-is_empty-clause-holds
 returns-then-not-is_empty-clause-holds g c asked kept of_cases =
-    some_listed c.args.subject.now.circuit c.args.limit c.args.rested.base.rounds
+    some_listed c.args.subject.now.circuit c.args.limit c.args.settled_base.base.rounds
     c.args.subject.now.cases _
     (sym c.is_empty.ensures ∙ c.if-not-is_empty.true) of_cases
 
@@ -22,10 +22,10 @@ pub add_case-requires-clause-known : goal.add_case-requires-clause-known
 add_case-requires-clause-known g c = c.in_ok-store.ensures.are
 
 pub add_case-requires-clause-fit : goal.add_case-requires-clause-fit
-add_case-requires-clause-fit g c = c.in_ok-store.ensures.rest.fit
+add_case-requires-clause-fit g c = c.in_ok-store.ensures.settled.fit
 
 pub add_case-requires-clause-few : goal.add_case-requires-clause-few
-add_case-requires-clause-few g c = c.in_ok-store.ensures.rest.few
+add_case-requires-clause-few g c = c.in_ok-store.ensures.settled.few
 
 pub returns-clause-ready : goal.returns-clause-ready
 returns-clause-ready g c =
@@ -35,10 +35,10 @@ pub returns-clause-holds : goal.returns-clause-holds
 returns-clause-holds g c =
     on_ok_weaker c.add_case.result
     (λ more asked kept of_cases.
-    none_listed c.args.subject.now.circuit c.args.limit c.args.rested.base.rounds
+    none_listed c.args.subject.now.circuit c.args.limit c.args.settled_base.base.rounds
     c.args.subject.now.cases _ _
     (sym c.is_empty.ensures ∙ c.if-not-is_empty.false)
-    (λ none. more asked kept c.args.limit c.args.rested.base.rounds []
+    (λ none. more asked kept c.args.limit c.args.settled_base.base.rounds []
     (record { number = 0; values = [] }) c.in_ok-store.ensures none)
     of_cases)
     c.add_case.ensures.holds

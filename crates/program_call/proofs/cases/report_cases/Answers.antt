@@ -3,7 +3,7 @@ use Rattle.std.proofs.lemmas.List.{take_all}
 use Rattle.std.proofs.lemmas.Result.{err_from_is_err_and}
 use Rattle.flat_circuit.specs.declared.case.CaseValue.{CaseValue}
 use Rattle.timing_analysis.specs.Case.{Case, Listed, listed_cases, numbered}
-use Rattle.timing_analysis.specs.Rested.{IsCaseIn}
+use Rattle.timing_analysis.specs.Settled.{IsCaseIn}
 use Rattle.timing_analysis.proofs.Ends.{base_early}
 use Rattle.timing_analysis.proofs.Stored.{ends_from}
 use Rattle.program_call.specs.Reporter.{OfCases}
@@ -12,22 +12,22 @@ use Rattle.program_call.proofs.cases.report_cases.Goals as goal
 
 pub begin-requires : goal.begin-requires
 begin-requires g c =
-    let within = c.in_ok-rested.ensures.rest.rest.within in
+    let within = c.in_ok-settled_base.ensures.settled.settled.within in
     let few = c.requires.few in
     omega (arith, within, few)
 
-pub returns-in_err-rested-clause-ended : goal.returns-in_err-rested-clause-ended
-returns-in_err-rested-clause-ended g c =
+pub returns-in_err-settled_base-clause-ended : goal.returns-in_err-settled_base-clause-ended
+returns-in_err-settled_base-clause-ended g c =
     let p = err_from_is_err_and c.from_residual.result c.from_residual.ensures.1 in
     rw (p.1, p.2) (base_early c.args.subject.now.circuit c.args.subject.now.cases c.args.limit
-    c.in_err-rested.field-0.0 c.in_err-rested.ensures.unsettled)
+    c.in_err-settled_base.field-0.0 c.in_err-settled_base.ensures.unsettled)
 
 pub loop-place-init : goal.loop-place-init
 loop-place-init g c = record {
-  so_far = of_none c.args.subject.now.circuit c.args.limit c.in_ok-rested.rested.base.rounds _
+  so_far = of_none c.args.subject.now.circuit c.args.limit c.in_ok-settled_base.settled_base.base.rounds _
       c.in_ok-reporter.ensures.holds;
   ready = c.in_ok-reporter.ensures.ready;
-  rest = c.in_ok-rested.ensures.rest;
+  settled = c.in_ok-settled_base.ensures.settled;
   same = refl;
 }
 
@@ -39,13 +39,13 @@ add_case-requires-clause-place g c =
     omega (arith, len, inside, few)
 
 pub add_case-requires-clause-known : goal.add_case-requires-clause-known
-add_case-requires-clause-known g c = c.in_ok-case.ensures.rest.are
+add_case-requires-clause-known g c = c.in_ok-case.ensures.settled.are
 
 pub add_case-requires-clause-fit : goal.add_case-requires-clause-fit
-add_case-requires-clause-fit g c = c.in_ok-case.ensures.rest.rest.fit
+add_case-requires-clause-fit g c = c.in_ok-case.ensures.settled.settled.fit
 
 pub add_case-requires-clause-few : goal.add_case-requires-clause-few
-add_case-requires-clause-few g c = c.in_ok-case.ensures.rest.rest.few
+add_case-requires-clause-few g c = c.in_ok-case.ensures.settled.settled.few
 
 pub returns-in_err-case-clause-ended : goal.returns-in_err-case-clause-ended
 returns-in_err-case-clause-ended g c =
@@ -57,11 +57,11 @@ returns-in_err-case-clause-ended g c =
     let place = c.loop-place.place in
     let inside : place < length cases = omega (arith, len, test) in
     let circuit = c.args.subject.now.circuit in
-    let base = c.in_ok-rested.rested.base.rounds in
+    let base = c.in_ok-settled_base.settled_base.base.rounds in
     let invariant = c.loop-place.invariant in
     rw (p.1, p.2) (ends_early cases place inside circuit c.args.limit base _ c.in_err-case.field-0.0
-    c.in_ok-rested.ensures.rest.rest.rest.rests invariant.so_far
-    (ends_from circuit c.args.limit base c.loop-place.rested.base.rounds (here cases place inside)
+    c.in_ok-settled_base.ensures.settled.settled.settled.settles invariant.so_far
+    (ends_from circuit c.args.limit base c.loop-place.settled_base.base.rounds (here cases place inside)
     c.in_err-case.field-0.0 invariant.same
     c.in_err-case.ensures.unsettled))
 
@@ -74,14 +74,14 @@ loop-place-preserved g c =
     let inside : place < length cases = omega (arith, len, test) in
     let circuit = c.args.subject.now.circuit in
     let limit = c.args.limit in
-    let base = c.in_ok-rested.rested.base.rounds in
+    let base = c.in_ok-settled_base.settled_base.base.rounds in
     let invariant = c.loop-place.invariant in
     let case = c.in_ok-case.case in
-    let rest =
+    let settled =
     subst (λ (b : ℕ). IsCaseIn circuit limit b (here cases place inside) case.number
     case.settled.rounds case.tick
-    c.case.new.rested.store case.settled.numbers case.faults) invariant.same
-    c.in_ok-case.ensures.rest in
+    c.case.new.settled_base.store case.settled.numbers case.faults) invariant.same
+    c.in_ok-case.ensures.settled in
     record {
       so_far =
           subst (λ (ls : List Listed). OfCases circuit limit base ls
@@ -90,9 +90,9 @@ loop-place-preserved g c =
           (sym (next_listed cases place inside))
           (c.in_ok-add_case.ensures.holds c.args.asked c.args.kept limit base
           (numbered 1 (take place cases)) (here cases place inside)
-          rest invariant.so_far);
+          settled invariant.so_far);
       ready = c.in_ok-add_case.ensures.ready;
-      rest = c.in_ok-case.ensures.kept;
+      settled = c.in_ok-case.ensures.kept;
       same = c.in_ok-case.ensures.round ∙ invariant.same;
     }
 
@@ -130,7 +130,7 @@ returns-clause-reported g c =
     let limit = c.args.limit in
     let asked = c.args.asked in
     let kept = c.args.kept in
-    let base = c.loop-place.rested.base.rounds in
+    let base = c.loop-place.settled_base.base.rounds in
     let invariant = c.loop-place.invariant in
     let whole : take c.loop-place.place cases ≡ cases =
     take_all c.loop-place.place cases (omega (arith, len, past)) in
@@ -143,7 +143,7 @@ returns-clause-reported g c =
     (sym invariant.same) invariant.so_far) in
     record {
       base = base;
-      rests = invariant.rest.rest.rest.rests;
+      settles = invariant.settled.settled.settled.settles;
       of_cases =
           of_weaker circuit limit base (listed_cases cases) _ _
           (λ some holds. c.in_ok-end.ensures asked kept base some holds)

@@ -8,7 +8,7 @@ use Rattle.section_compose.specs.Answer.{Concluded}
 use Rattle.section_compose.specs.Evaluated.{section_round}
 use Rattle.section_compose.specs.Lines.{section_line, sections_line}
 use Rattle.section_compose.specs.Outcome.{verdict_of}
-use Rattle.section_compose.specs.Settled.{rest_in}
+use Rattle.section_compose.specs.Settled.{settling_in}
 use Rattle.section_compose.proofs.Answered.{replied_so, unsettled_so}
 use Rattle.section_compose.proofs.Fronts.{front_more, front_none, front_stops, front_whole, stops_so}
 use Rattle.section_compose.proofs.answer.settled.Goals as goal
@@ -21,13 +21,13 @@ loop-s-init c =
 pub loop-s-preserved : goal.loop-s-preserved
 loop-s-preserved c =
     let sections = c.args.sections.now in
-    let rest = c.in-Ok.rest in
-    let here = rest_in rest.settled.rounds rest.store rest.settled.numbers in
+    let settling = c.in-Ok.settling in
+    let here = settling_in settling.settled.rounds settling.store settling.settled.numbers in
     let faults = c.in-Ok.ensures.faults in
     let before = c.loop-s.report in
     let after = c.add_section.new.self in
     front_more sections c.loop-s.s before.bytes before.tick before.total c.loop-s.invariant c.index-sections-s.result c.loop-s-test.true c.index-sections-s.is
-    here after.bytes after.tick after.total (c.loop-s.s + 1) c.in-Ok.ensures.rest refl
+    here after.bytes after.tick after.total (c.loop-s.s + 1) c.in-Ok.ensures.settled refl
     c.in_ok-add_section-in-Ok.ensures.told
     (c.in_ok-add_section-in-Ok.ensures.tick ∙ ap (max before.tick) c.in-Ok.ensures.tick)
     (c.in_ok-add_section-in-Ok.ensures.counted ∙ ap (λ fs. before.total + length fs) faults)

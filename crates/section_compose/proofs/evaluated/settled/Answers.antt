@@ -17,7 +17,7 @@ use Rattle.case_analysis.specs.Case.{is_set}
 use Rattle.case_analysis.proofs.Together.{as_one_wave, as_together, driven_together}
 use Rattle.section_compose.specs.Evaluated.{start_with}
 use Rattle.section_compose.proofs.Classes.{start_alike}
-use Rattle.section_compose.proofs.Settling.{settled_ends, settled_rests, settled_soon}
+use Rattle.section_compose.proofs.Settling.{settled_ends, settled_so, settled_soon}
 use Rattle.section_compose.proofs.evaluated.settled.Goals as goal
 
 pub settle-requires-clause-constants : goal.settle-requires-clause-constants
@@ -59,12 +59,12 @@ settle-requires-clause-classes g c =
           (driven_together circuit cases ks c.known.ensures stable),
     )))
 
-pub returns-clause-rest : goal.returns-clause-rest
-returns-clause-rest g c =
-    settled_rests c.settle.result c.args.c.now (marked_in c.in_ok-active.active) (waves_of (waves_at c.section_start.new.store c.in_ok-start.start))
+pub returns-clause-settled : goal.returns-clause-settled
+returns-clause-settled g c =
+    settled_so c.settle.result c.args.c.now (marked_in c.in_ok-active.active) (waves_of (waves_at c.section_start.new.store c.in_ok-start.start))
     (start_with c.args.c.now (is_set c.args.case)) c.default_limit-limit.result
     c.in_ok-active.ensures.driven c.in_ok-start.ensures.is c.default_limit-limit.ensures.is
-    (λ s. s.rounds) (λ s. waves_of (waves_at c.settle.new.store s.numbers)) c.settle.ensures.rest
+    (λ s. s.rounds) (λ s. waves_of (waves_at c.settle.new.store s.numbers)) c.settle.ensures.settled
 
 pub returns-clause-unsettled : goal.returns-clause-unsettled
 returns-clause-unsettled g c =
@@ -76,4 +76,4 @@ pub returns-clause-within : goal.returns-clause-within
 returns-clause-within g c =
     settled_soon c.settle.result c.args.c.now (marked_in c.in_ok-active.active) (waves_of (waves_at c.section_start.new.store c.in_ok-start.start))
     c.default_limit-limit.result (λ s. s.rounds) (λ s. waves_of (waves_at c.settle.new.store s.numbers))
-    c.default_limit-limit.ensures.bounded c.settle.ensures.rest
+    c.default_limit-limit.ensures.bounded c.settle.ensures.settled

@@ -1,7 +1,7 @@
 use Rattle.std.proofs.Common.{[], ◌∷◌, ◌++◌, refl, sym}
 use Rattle.std.proofs.lemmas.Result.{on_ok_weaker}
 use Rattle.timing_analysis.specs.Case.{Case}
-use Rattle.timing_analysis.specs.Rested.{settled_case}
+use Rattle.timing_analysis.specs.Settled.{settled_case}
 use Rattle.drawing_notes.proofs.reply.NotingReporter.add_case.Goals as goal
 
 pub returns-clause-holds : goal.returns-clause-holds

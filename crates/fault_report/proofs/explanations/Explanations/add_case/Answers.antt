@@ -3,7 +3,7 @@ use Rattle.std.proofs.lemmas.List.{append_assoc}
 use Rattle.drawing_tree.specs.Tree.{drawing_of}
 use Rattle.flat_circuit.specs.declared.fault.Fault.{Fault}
 use Rattle.fixpoint_engine.specs.Waves.{waves_of}
-use Rattle.timing_analysis.specs.Rested.{settled_case}
+use Rattle.timing_analysis.specs.Settled.{settled_case}
 use Rattle.text_groups.specs.Group.{gathered}
 use Rattle.fault_chain.specs.Report.{number_line}
 use Rattle.fault_report.specs.Group.{fault_groups}

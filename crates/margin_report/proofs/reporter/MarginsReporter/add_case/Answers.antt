@@ -1,6 +1,6 @@
 use Rattle.std.proofs.Common.{sym, refl}
 use Rattle.std.proofs.lemmas.Result.{on_ok_weaker}
-use Rattle.timing_analysis.specs.Rested.{settled_case}
+use Rattle.timing_analysis.specs.Settled.{settled_case}
 use Rattle.margin_report.proofs.reporter.MarginsReporter.add_case.Goals as goal
 
 pub returns-clause-holds : goal.returns-clause-holds

@@ -1,7 +1,7 @@
 use Rattle.std.proofs.Common.{◌∙◌, ◌+◌, length, sym}
 use Rattle.std.proofs.lemmas.List.Sums.{sum_by_push}
 use Rattle.timing_analysis.specs.Case.{Case, fault_count, faults}
-use Rattle.timing_analysis.specs.Rested.{settled_case}
+use Rattle.timing_analysis.specs.Settled.{settled_case}
 use Rattle.scald_tool.proofs.bench.NumbersReporter.add_case.Goals as goal
 
 pub returns-clause-holds : goal.returns-clause-holds

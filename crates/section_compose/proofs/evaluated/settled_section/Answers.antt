@@ -3,19 +3,19 @@ use Rattle.fixpoint_engine.specs.Table.{waves_at}
 use Rattle.fixpoint_engine.specs.Waves.{waves_of}
 use Rattle.timing_analysis.specs.Case.{faults_of}
 use Rattle.section_compose.specs.Rules.{circuits}
-use Rattle.section_compose.specs.Settled.{rest_in}
-use Rattle.section_compose.proofs.Begun.{ends, rests}
-use Rattle.section_compose.proofs.evaluated.section_at_rest.Goals as goal
+use Rattle.section_compose.specs.Settled.{settling_in}
+use Rattle.section_compose.proofs.Begun.{ends, is_settled}
+use Rattle.section_compose.proofs.evaluated.settled_section.Goals as goal
 
 pub returns-in-Err-clause-unsettled : goal.returns-in-Err-clause-unsettled
 returns-in-Err-clause-unsettled g c =
     ends (circuits c.args.sections.now) c.args.c.now c.in_ok-case.case c.in_ok-case.ensures c.in-Err.end c.in-Err.ensures.unsettled
 
-pub returns-clause-rest : goal.returns-clause-rest
-returns-clause-rest g c =
+pub returns-clause-settled : goal.returns-clause-settled
+returns-clause-settled g c =
     let s = c.in-Ok.settled in
-    rests (circuits c.args.sections.now) c.args.c.now c.in_ok-case.case c.in_ok-case.ensures
-    (rest_in s.rounds c.settled.new.store s.numbers) c.in-Ok.ensures.rest
+    is_settled (circuits c.args.sections.now) c.args.c.now c.in_ok-case.case c.in_ok-case.ensures
+    (settling_in s.rounds c.settled.new.store s.numbers) c.in-Ok.ensures.settled
 
 pub returns-clause-faults : goal.returns-clause-faults
 returns-clause-faults g c =

@@ -1,8 +1,8 @@
 use Rattle.std.proofs.Common.{◌∙◌, ap, refl, subst, sym}
 use Rattle.fixpoint_engine.specs.Table.{waves_at}
-use Rattle.timing_analysis.specs.Rested.{IsBaseIn}
+use Rattle.timing_analysis.specs.Settled.{IsBaseIn}
 use Rattle.timing_analysis.proofs.Stored.{base_again}
-use Rattle.timing_analysis.proofs.rested.Rested.shorten.Goals as goal
+use Rattle.timing_analysis.proofs.settled.SettledBase.shorten.Goals as goal
 
 -- nothing was forgotten
 pub returns-then-not-branch-clause-kept : goal.returns-then-not-branch-clause-kept

@@ -1,4 +1,4 @@
-//! The base and the cases of a circuit at rest, with their faults.
+//! The settled base and cases of a circuit, with their faults.
 
 ghost use Rattle.std.specs.Prelude.{◌≡◌, ◌≢◌, ◌≤◌, ◌<◌, ◌+◌, [], ℕ, List, IfErr, IfOk, IfSome, MatchResult, OnOk, length};
 ghost use Rattle.flat_circuit.specs.Instances.{outputs};
@@ -16,7 +16,7 @@ ghost use Rattle.timing_analysis.specs.Case.{faults_of};
 ghost use Rattle.timing_analysis.specs.Ended.{EndsCase};
 ghost use Rattle.timing_analysis.specs.Known.{IsKnown};
 ghost use Rattle.timing_analysis.specs.Promise.{KeepsFaultless};
-ghost use Rattle.timing_analysis.specs.Rested.{IsBaseIn, IsCaseIn};
+ghost use Rattle.timing_analysis.specs.Settled.{IsBaseIn, IsCaseIn};
 ghost use Rattle.timing_analysis.specs.Subject.{IsSubject};
 
 use crate::case_faults::{KnownFaults, faults, faults_again, known_faults};
@@ -29,21 +29,21 @@ use std::alloc::Global;
 use step_values::Value;
 use wave_core::CyclicWave;
 
-/// The base of a circuit at rest, with which each case begins.
+/// The settled base of a circuit, with which each case begins.
 #[derive(Drop)]
-pub struct Rested<W: CyclicWave<Item = Value>> {
+pub struct SettledBase<W: CyclicWave<Item = Value>> {
     /// The waves by their numbers, and what was made of them.
     pub store: Store<W>,
     /// The numbers of the waves of the base, and the round in which they settled.
     pub base: Settled,
-    /// The faults of each instance and of each net in these waves, where there are cases: what a case
-    /// leaves as it is in the base is not checked again.
+    /// The faults of each instance and of each net in these waves, where there are cases: what a
+    /// case leaves as it is in the base is not checked again.
     pub known: Option<KnownFaults>,
 }
 
-/// A case at rest.
+/// A settled case.
 #[derive(Drop)]
-pub struct CaseAtRest {
+pub struct SettledCase {
     /// The number of the case: from 1, or 0 where a drawing lists none.
     pub number: u32,
     /// The numbers of the waves of the case, and how many rounds they took from the base on.
@@ -55,17 +55,18 @@ pub struct CaseAtRest {
 }
 
 impl Subject {
-    /// The base of the circuit at rest. `Unsettled` comes where it does not settle within so many rounds,
-    /// and `NoMemory` where memory runs out.
+    /// The settled base of the circuit. `Unsettled` comes where it does not settle within so many
+    /// rounds, and `NoMemory` where memory runs out.
     pub fn base<W: CyclicWave<Item = Value>>(
         &self,
         alloc: Global,
         limit: u32,
-    ) -> Result<Rested<W>, EngineEnd>
+    ) -> Result<SettledBase<W>, EngineEnd>
         requires { IsSubject self.now }
-        ensures rest { IfOk result (λ r.
+        ensures settled { IfOk result (λ r.
             IsBaseIn self.now.circuit limit r.base.rounds r.store r.base.numbers r.known) }
-        ensures unsettled { IfErr result (EndsFor self.now.circuit.order (base_round self.now.circuit) limit) }
+        ensures unsettled { IfErr result
+            (EndsFor self.now.circuit.order (base_round self.now.circuit) limit) }
         ensures loopless { HasNoLoop self.now.circuit → outputs self.now.circuit.instances ≤ limit →
             MatchResult result (λ r.
             r.base.rounds ≤ outputs self.now.circuit.instances) (λ e. e ≡ EngineEnd.NoMemory) }
@@ -85,50 +86,58 @@ impl Subject {
             let waves = Waves::new(store.waves(), base.numbers.as_slice());
             Some(known_faults(alloc, &self.circuit, &waves)?)
         };
-        Ok(Rested { store, base, known })
+        Ok(SettledBase { store, base, known })
     }
 
-    /// The case at this place of the list, from 0, at rest, from the base on. `Unsettled` comes where it
-    /// does not settle within so many rounds, and `NoMemory` where memory runs out; the base may then be lost.
+    /// The settled case at this place of the list, from 0, from the base on. `Unsettled` comes
+    /// where it does not settle within so many rounds, and `NoMemory` where memory runs out; the
+    /// base may then be lost.
     pub fn case<W: CyclicWave<Item = Value>>(
         &self,
         alloc: Global,
-        rested: &mut Rested<W>,
+        settled_base: &mut SettledBase<W>,
         place: u32,
         limit: u32,
-    ) -> Result<CaseAtRest, EngineEnd>
+    ) -> Result<SettledCase, EngineEnd>
         requires is { IsSubject self.now }
         requires few { limit ≤ 10000000 }
         requires inside { place < length self.now.cases }
-        requires rest { IsBaseIn self.now.circuit limit
-            rested.old.base.rounds rested.old.store rested.old.base.numbers rested.old.known }
+        requires settled { IsBaseIn self.now.circuit limit
+            settled_base.old.base.rounds settled_base.old.store settled_base.old.base.numbers
+            settled_base.old.known }
         ensures kept { let kept = IsBaseIn self.now.circuit limit
-            rested.new.base.rounds rested.new.store rested.new.base.numbers rested.new.known in
+            settled_base.new.base.rounds settled_base.new.store settled_base.new.base.numbers
+            settled_base.new.known in
             MatchResult result (λ _. kept) (λ e. e ≢ EngineEnd.NoMemory → kept) }
-        ensures round { rested.new.base.rounds ≡ rested.old.base.rounds }
-        ensures rest { IfOk result (λ k.
-            IsCaseIn self.now.circuit limit rested.old.base.rounds
+        ensures round { settled_base.new.base.rounds ≡ settled_base.old.base.rounds }
+        ensures settled { IfOk result (λ k.
+            IsCaseIn self.now.circuit limit settled_base.old.base.rounds
             (record { number = place + 1; values = case_at self.now.cases place })
-            k.number k.settled.rounds k.tick rested.new.store k.settled.numbers k.faults) }
+            k.number k.settled.rounds k.tick settled_base.new.store k.settled.numbers k.faults) }
         ensures unsettled { IfErr result (EndsCase self.now.circuit limit
-            rested.old.base.rounds (record { number = place + 1; values = case_at self.now.cases place })) }
+            settled_base.old.base.rounds (record {
+              number = place + 1;
+              values =
+                  case_at self.now.cases place;
+            })) }
         ensures loopless { HasNoLoop self.now.circuit →
-            outputs self.now.circuit.instances ≤ limit → IfErr result (λ e. e ≡ EngineEnd.NoMemory) }
+            outputs self.now.circuit.instances ≤ limit →
+            IfErr result (λ e. e ≡ EngineEnd.NoMemory) }
     {
-        rested.shorten(alloc)?;
+        settled_base.shorten(alloc)?;
         let settled = case_waves(
             alloc,
             &self.circuit,
-            &mut rested.store,
+            &mut settled_base.store,
             &self.cases,
             &self.classes,
-            &rested.base,
+            &settled_base.base,
             place,
             limit,
         )?;
-        let found = faults_from(alloc, &self.circuit, rested, &settled.numbers)?;
-        let tick = tick(self.reach, rested.base.rounds, settled.rounds);
-        Ok(CaseAtRest {
+        let found = faults_from(alloc, &self.circuit, settled_base, &settled.numbers)?;
+        let tick = tick(self.reach, settled_base.base.rounds, settled.rounds);
+        Ok(SettledCase {
             number: place + 1,
             settled,
             tick,
@@ -137,7 +146,7 @@ impl Subject {
     }
 }
 
-impl<W: CyclicWave<Item = Value>> Rested<W> {
+impl<W: CyclicWave<Item = Value>> SettledBase<W> {
     /// The one case of what lists none: the base, from which it takes no more rounds.
     /// `NoMemory` comes where memory runs out. The limit is that of the base's rounds.
     pub fn only_case(
@@ -145,15 +154,16 @@ impl<W: CyclicWave<Item = Value>> Rested<W> {
         alloc: Global,
         subject: &Subject,
         limit: u32,
-    ) -> Result<(Store<W>, CaseAtRest), NoMemory>
+    ) -> Result<(Store<W>, SettledCase), NoMemory>
         requires is { IsSubject subject.now }
         requires few { limit ≤ 10000000 }
-        requires rest { IsBaseIn subject.now.circuit limit self.base.rounds self.store self.base.numbers self.known }
+        requires settled { IsBaseIn subject.now.circuit limit self.base.rounds self.store
+            self.base.numbers self.known }
         ensures { IfOk result (λ k. IsCaseIn subject.now.circuit limit self.base.rounds
             (record { number = 0; values = [] })
             k.1.number k.1.settled.rounds k.1.tick k.0 k.1.settled.numbers k.1.faults) }
     {
-        let Rested {
+        let SettledBase {
             store,
             base,
             known: _,
@@ -166,7 +176,7 @@ impl<W: CyclicWave<Item = Value>> Rested<W> {
         let waves = Waves::new(store.waves(), numbers.as_slice());
         let found = faults(alloc, &subject.circuit, &waves)?;
         let tick = tick(subject.reach, rounds, 0);
-        let case = CaseAtRest {
+        let case = SettledCase {
             number: 0,
             settled: Settled {
                 numbers,
@@ -179,13 +189,15 @@ impl<W: CyclicWave<Item = Value>> Rested<W> {
         Ok((store, case))
     }
 
-    /// Forgets the waves that are not the base's, and all evaluations, where much came in: cases that come to ever new
-    /// waves would else take memory without end.
+    /// Forgets the waves that are not the base's, and all evaluations, where much came in: cases
+    /// that come to ever new waves would else take memory without end.
     fn shorten(&mut self, alloc: Global) -> Result<(), NoMemory>
         requires { AreKnown self.old.store self.old.base.numbers }
         ensures kept { OnOk result ((c : Flat) (limit : ℕ) →
-            IsBaseIn c limit self.old.base.rounds self.old.store self.old.base.numbers self.old.known →
-            IsBaseIn c limit self.new.base.rounds self.new.store self.new.base.numbers self.new.known) }
+            IsBaseIn c limit self.old.base.rounds self.old.store self.old.base.numbers
+            self.old.known →
+            IsBaseIn c limit self.new.base.rounds self.new.store self.new.base.numbers
+            self.new.known) }
         ensures round { self.new.base.rounds ≡ self.old.base.rounds }
     {
         let base = self.base.numbers.as_slice();
@@ -198,32 +210,35 @@ impl<W: CyclicWave<Item = Value>> Rested<W> {
     }
 }
 
-/// The faults of a case with the waves of these numbers: what it leaves as it is in the base is not checked again
-/// where the faults of the base are known.
+/// The faults of a case with the waves of these numbers: what it leaves as it is in the base is not
+/// checked again where the faults of the base are known.
 fn faults_from<W: CyclicWave<Item = Value>>(
     alloc: Global,
     circuit: &Circuit,
-    rested: &Rested<W>,
+    settled_base: &SettledBase<W>,
     numbers: &Numbers,
 ) -> Result<Faults, NoMemory>
-    requires base { AreKnown rested.now.store rested.now.base.numbers }
-    requires before { FitWaves circuit.now (waves_at rested.now.store rested.now.base.numbers) }
-    requires known { IfSome rested.now.known
-        (IsKnown circuit.now (waves_of (waves_at rested.now.store rested.now.base.numbers))) }
-    requires numbers { AreKnown rested.now.store numbers.now }
-    requires fit { FitWaves circuit.now (waves_at rested.now.store numbers.now) }
+    requires base { AreKnown settled_base.now.store settled_base.now.base.numbers }
+    requires before { FitWaves circuit.now
+        (waves_at settled_base.now.store settled_base.now.base.numbers) }
+    requires known { IfSome settled_base.now.known
+        (IsKnown circuit.now (waves_of
+        (waves_at settled_base.now.store settled_base.now.base.numbers))) }
+    requires numbers { AreKnown settled_base.now.store numbers.now }
+    requires fit { FitWaves circuit.now (waves_at settled_base.now.store numbers.now) }
     ensures are { IfOk result (λ faults.
-        faults ≡ faults_of circuit.now (waves_of (waves_at rested.now.store numbers.now))) }
+        faults ≡ faults_of circuit.now (waves_of (waves_at settled_base.now.store numbers.now))) }
     ensures few { IfOk result (λ faults. length faults ≤ 458752) }
     ensures keep { IfOk result (λ faults. (values : List CaseValue) (base rounds : ℕ) →
-        PermitCase circuit.now values (base + rounds) (waves_of (waves_at rested.now.store numbers.now)) →
+        PermitCase circuit.now values (base + rounds)
+        (waves_of (waves_at settled_base.now.store numbers.now)) →
         KeepsFaultless circuit.now values faults (tick (reach circuit.now) base rounds)) }
 {
-    let table = rested.store.waves();
+    let table = settled_base.store.waves();
     let waves = Waves::new(table, numbers.as_slice());
-    match &rested.known {
+    match &settled_base.known {
         Some(known) => {
-            let before = Waves::new(table, rested.base.numbers.as_slice());
+            let before = Waves::new(table, settled_base.base.numbers.as_slice());
             faults_again(alloc, circuit, &before, known, &waves)
         }
         None => faults(alloc, circuit, &waves),

@@ -1,4 +1,4 @@
--- A case at rest, and the base as the one case of a drawing that lists none.
+-- A settled case, and the base as the one case of a drawing that lists none.
 use Rattle.std.proofs.Common.{◌≡◌, ℕ, ◌+◌, ◌≤◌, Bool, false, List, [], length, refl, sym, ap, subst, ◌∙◌, arith}
 use Rattle.step_values.specs.declared.value.Value.{Value}
 use Rattle.skew_algebra.specs.Wave.{Wave}
@@ -15,29 +15,29 @@ use Rattle.fixpoint_engine.proofs.Reached.{round_next, inactive_stays}
 use Rattle.case_analysis.specs.Base.{base_round, IsBase, PermitInputs}
 use Rattle.case_analysis.specs.Case.{InCone, Is_set, Hears_one, IsCone, IsCase, HasCone, EndsInCone, PermitCase, case_active, case_start, case_round}
 use Rattle.case_analysis.specs.Tick.{tick}
-use Rattle.timing_analysis.specs.Case.{Listed, IsAtRest, faults_of}
+use Rattle.timing_analysis.specs.Case.{Listed, IsSettled, faults_of}
 use Rattle.timing_analysis.specs.Ended.{EndsCase}
 use Rattle.timing_analysis.specs.Promise.{IsKept, KeepsFaultless}
-use Rattle.timing_analysis.specs.Rested.{IsCaseAtRest, settled_case}
+use Rattle.timing_analysis.specs.Settled.{IsSettledCase, settled_case}
 use Rattle.timing_analysis.proofs.Headline.{faultless_is_unbroken}
-use Rattle.timing_analysis.proofs.OneRest.{same_waves}
+use Rattle.timing_analysis.proofs.SettlesOneWay.{same_waves}
 
--- ---- what is known of a case at rest
+-- ---- what is known of a settled case
 
 module _ (c : Circuit) (limit base : ℕ) (listed : Listed) (rounds : ℕ) (ws : List (Wave Value)) (fs : List Fault) where
-  pub case_at_rest : (number printed far : ℕ) → number ≡ listed.number → rounds ≤ limit → FitWaves c ws →
-      IsAtRest c limit base (settled_case listed rounds ws) → printed ≡ tick far base rounds → far ≡ reach c →
+  pub case_settled : (number printed far : ℕ) → number ≡ listed.number → rounds ≤ limit → FitWaves c ws →
+      IsSettled c limit base (settled_case listed rounds ws) → printed ≡ tick far base rounds → far ≡ reach c →
       fs ≡ faults_of c (waves_of ws) → length fs ≤ 458752 →
       KeepsFaultless c listed.values fs (tick (reach c) base rounds) →
-      IsCaseAtRest c limit base listed number rounds printed ws fs
-  case_at_rest number printed far same within fit rest at reached found few keeps =
+      IsSettledCase c limit base listed number rounds printed ws fs
+  case_settled number printed far same within fit settled at reached found few keeps =
       let kept : IsKept c base (settled_case listed rounds ws) =
       subst (λ (xs : List Fault). KeepsFaultless c listed.values xs (tick (reach c) base rounds)) found keeps in
       record {
         numbered = same;
         within = within;
         fit = fit;
-        rest = rest;
+        settled = settled;
         printed = at ∙ ap (λ (r : ℕ). tick r base rounds) reached;
         found = found;
         few = few;
@@ -59,16 +59,16 @@ unfolding round
 round_first c active start i = refl
 
 -- The base is the one case of a drawing that lists none.
-pub base_rests : (c : Circuit) (limit base : ℕ) (ws : Waves) → IsBase c limit base ws →
-    IsAtRest c limit base (record { listed = record { number = 0; values = [] }; rounds = 0; waves = ws })
-base_rests c limit base ws is =
+pub base_settles : (c : Circuit) (limit base : ℕ) (ws : Waves) → IsBase c limit base ws →
+    IsSettled c limit base (record { listed = record { number = 0; values = [] }; rounds = 0; waves = ws })
+base_settles c limit base ws is =
     let active : ℕ → Bool = case_active c (λ k. false) in
     let start : Waves = case_start c [] (λ k. false) (base_round c base) in
     record {
       cone = λ i. false;
       is_cone = no_cone c;
       is = record {
-        rests = record {
+        settles = record {
           still = λ i. round_next c active start 0 i ∙ inactive_stays c active (round c active start 0) i refl;
           first = λ s less. absurd (omega arith);
           within = omega arith;
@@ -89,10 +89,10 @@ module _ (c : Circuit) (limit base number : ℕ) (values : List CaseValue) (befo
   abbrev listed : Listed
   listed = record { number = number; values = values }
 
-  pub case_rests : (rounds : ℕ) (ws : Waves) → HasCone c values →
+  pub case_settles : (rounds : ℕ) (ws : Waves) → HasCone c values →
       ((cone : ℕ → Bool) → IsCone c values cone → IsCase c values cone before limit rounds ws) →
-      IsAtRest c limit base (record { listed = listed; rounds = rounds; waves = ws })
-  case_rests rounds ws has is = record {
+      IsSettled c limit base (record { listed = listed; rounds = rounds; waves = ws })
+  case_settles rounds ws has is = record {
     cone = has.cone;
     is_cone = has.is;
     is =
@@ -100,7 +100,7 @@ module _ (c : Circuit) (limit base number : ℕ) (values : List CaseValue) (befo
         (same_waves before (base_round c base) same) (is has.cone has.is);
   }
 
-  -- rounds of a case that never rests
+  -- rounds of a case that never settles
   pub case_ends : (end : EngineEnd) → EndsInCone c values end →
       ((cone : ℕ → Bool) → IsCone c values cone → EndsFor c.order (case_round c values cone before) limit end) →
       EndsCase c limit base listed end

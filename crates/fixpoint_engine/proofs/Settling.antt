@@ -1,4 +1,4 @@
--- Where no net is reached from itself through listening pins, rounds come to rest by as many rounds as there are outputs:
+-- Where no net is reached from itself through listening pins, rounds settle by as many rounds as there are outputs:
 -- a net that changes in a round hears one that changed in the round before, and so on back to the first; these are all
 -- different nets, each the output of an instance of its own.
 use Rattle.std.proofs.Common.{◌≡◌, ℕ, zero, suc, ◌+◌, ◌≤◌, ◌==◌, Bool, true, false, not, ◌&&◌, ◌||◌, cond, List, [], ◌∷◌, ◌++◌, length, length-append, refl, sym, ap, subst, ◌∙◌, arith, inl, inr, ◌⊎◌, All, Option, Some, None, is_some, nat_eq}
@@ -28,7 +28,7 @@ use Rattle.fixpoint_engine.specs.Same.{same_wave}
 use Rattle.fixpoint_engine.specs.Waves.{Waves}
 use Rattle.fixpoint_engine.specs.declared.rounds.EngineEnd.{EngineEnd}
 use Rattle.fixpoint_engine.specs.declared.rounds.EngineEnd.TheVariants.{Unsettled, NoMemory}
-use Rattle.fixpoint_engine.specs.Rounds.{wave_from, round, AreSame, RestsAt}
+use Rattle.fixpoint_engine.specs.Rounds.{wave_from, round, AreSame, SettlesAt}
 use Rattle.fixpoint_engine.specs.Work.{differs, is_on_any, hears_from, hears_in, is_due}
 use Rattle.fixpoint_engine.specs.Loops.{Hears, HasNoLoop}
 use Rattle.fixpoint_engine.specs.End.{EndsFor}
@@ -184,12 +184,12 @@ trail_of c active start (suc r) i known none changes =
     let heard = change_heard c active start r i changes in
     longer c heard.net i r none heard.is (change_output c active start (suc r) i known changes) (trail_of c active start r heard.net known none heard.of)
 
--- ---- rest
+-- ---- settling
 
 -- As many rounds as outputs are enough, from any start and over any active nets.
-pub rests_by_outputs : (c : Circuit) (active : ℕ → Bool) (start : Waves) → IsCircuit c → HasNoLoop c →
+pub settles_by_outputs : (c : Circuit) (active : ℕ → Bool) (start : Waves) → IsCircuit c → HasNoLoop c →
     AreSame (round c active start (suc (outputs c.instances))) (round c active start (outputs c.instances))
-rests_by_outputs c active start known none i = elim (cases_Bool (same_wave (round c active start n i) (round c active start (suc n) i))) [
+settles_by_outputs c active start known none i = elim (cases_Bool (same_wave (round c active start n i) (round c active start (suc n) i))) [
   | inl same ↦ sym (same_wave_is _ _ same)
   | inr differ ↦ absurd (too_long (trail_of c active start n i known none (ap not differ)))
 ]
@@ -204,13 +204,13 @@ rests_by_outputs c active start known none i = elim (cases_Bool (same_wave (roun
         let long = trail.long in
         omega (arith, most, few, long)
 
-pub rests_soon : (c : Circuit) (active : ℕ → Bool) (start : Waves) (limit r : ℕ) → IsCircuit c → HasNoLoop c → RestsAt (round c active start) limit r → r ≤ outputs c.instances
-rests_soon c active start limit r known none rests = elim (cases_lt (outputs c.instances) r) [
-  | inl late ↦ absurd (rests.first (outputs c.instances) late (rests_by_outputs c active start known none))
+pub settles_soon : (c : Circuit) (active : ℕ → Bool) (start : Waves) (limit r : ℕ) → IsCircuit c → HasNoLoop c → SettlesAt (round c active start) limit r → r ≤ outputs c.instances
+settles_soon c active start limit r known none settles = elim (cases_lt (outputs c.instances) r) [
+  | inl late ↦ absurd (settles.first (outputs c.instances) late (settles_by_outputs c active start known none))
   | inr soon ↦ soon
 ]
 
-pub rests_within : (c : Circuit) (active : ℕ → Bool) (start : Waves) (limit : ℕ) (e : EngineEnd) →
+pub settles_within : (c : Circuit) (active : ℕ → Bool) (start : Waves) (limit : ℕ) (e : EngineEnd) →
     IsCircuit c → HasNoLoop c → outputs c.instances ≤ limit → EndsFor c.order (round c active start) limit e → e ≡ NoMemory
-rests_within c active start limit NoMemory known none within ends = refl
-rests_within c active start limit (Unsettled net at) known none within ends = absurd (ends.0.never (outputs c.instances) within (rests_by_outputs c active start known none))
+settles_within c active start limit NoMemory known none within ends = refl
+settles_within c active start limit (Unsettled net at) known none within ends = absurd (ends.0.never (outputs c.instances) within (settles_by_outputs c active start known none))

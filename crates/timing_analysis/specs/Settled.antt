@@ -1,4 +1,4 @@
--- A base and cases at rest: their waves, their faults, and what never breaks in them.
+-- A settled base and settled cases: their waves, their faults, and what never breaks in them.
 use Rattle.std.specs.Prelude.{◌≡◌, ℕ, ◌≤◌, List, [], length, Option, IfSome}
 use Rattle.step_values.specs.declared.value.Value.{Value}
 use Rattle.skew_algebra.specs.Wave.{Wave}
@@ -9,16 +9,17 @@ use Rattle.fixpoint_engine.specs.Waves.{FitWaves, waves_of}
 use Rattle.case_analysis.specs.Base.{IsBase, PermitInputs}
 use Rattle.timing_analysis.specs.declared.case_faults.KnownFaults.{KnownFaults}
 use Rattle.timing_analysis.specs.Known.{IsKnown}
-use Rattle.timing_analysis.specs.Case.{Listed, Case, IsAtRest, printed_tick, faults_of}
+use Rattle.timing_analysis.specs.Case.{Listed, Case, IsSettled, printed_tick, faults_of}
 use Rattle.timing_analysis.specs.Promise.{IsKept, IsUnbroken}
 
--- The base settled in this round, within the limit, with these waves, which permit every run whose inputs
--- keep their assertions. Where its faults are known by instances and nets, they are those of these waves.
-pub record IsBaseAtRest (c : Circuit) (limit base : ℕ) (ws : List (Wave Value))
+-- The base settled in this round, within the limit, with these waves, which permit every run whose
+-- inputs keep their assertions. Where its faults are known by instances and nets, they are those of
+-- these waves.
+pub record IsSettledBase (c : Circuit) (limit base : ℕ) (ws : List (Wave Value))
     (known : Option KnownFaults) : Type 0 where
   pub within : base ≤ limit
   pub fit : FitWaves c ws
-  pub rest : IsBase c limit base (waves_of ws)
+  pub settled : IsBase c limit base (waves_of ws)
   pub permits : PermitInputs c base (waves_of ws)
   pub are_known : IfSome known (IsKnown c (waves_of ws))
 
@@ -26,15 +27,15 @@ pub record IsBaseAtRest (c : Circuit) (limit base : ℕ) (ws : List (Wave Value)
 abbrev pub settled_case : Listed → ℕ → List (Wave Value) → Case
 settled_case listed rounds ws = record { listed = listed; rounds = rounds; waves = waves_of ws }
 
--- The case that is listed settled from a base of this round, after so many rounds of its own and within
--- the limit, with these waves. It has this number and these faults, and this tick is printed for it: what
--- has no fault is never broken from there on, and nothing is where there is no fault.
-pub record IsCaseAtRest (c : Circuit) (limit base : ℕ) (listed : Listed) (number rounds tick : ℕ)
+-- The case that is listed settled from a base of this round, after so many rounds of its own and
+-- within the limit, with these waves. It has this number and these faults, and this tick is printed
+-- for it: what has no fault is never broken from there on, and nothing is where there is no fault.
+pub record IsSettledCase (c : Circuit) (limit base : ℕ) (listed : Listed) (number rounds tick : ℕ)
     (ws : List (Wave Value)) (fs : List Fault) : Type 0 where
   pub numbered : number ≡ listed.number
   pub within : rounds ≤ limit
   pub fit : FitWaves c ws
-  pub rest : IsAtRest c limit base (settled_case listed rounds ws)
+  pub settled : IsSettled c limit base (settled_case listed rounds ws)
   pub printed : tick ≡ printed_tick c base (settled_case listed rounds ws)
   pub found : fs ≡ faults_of c (waves_of ws)
   pub few : length fs ≤ 458752
@@ -46,9 +47,9 @@ pub record IsCaseAtRest (c : Circuit) (limit base : ℕ) (listed : Listed) (numb
 pub record IsBaseIn (c : Circuit) (limit base : ℕ) (table : List (Wave Value)) (numbers : List ℕ)
     (known : Option KnownFaults) : Type 0 where
   pub are : AreKnown table numbers
-  pub rest : IsBaseAtRest c limit base (waves_at table numbers) known
+  pub settled : IsSettledBase c limit base (waves_at table numbers) known
 
 pub record IsCaseIn (c : Circuit) (limit base : ℕ) (listed : Listed) (number rounds tick : ℕ)
     (table : List (Wave Value)) (numbers : List ℕ) (fs : List Fault) : Type 0 where
   pub are : AreKnown table numbers
-  pub rest : IsCaseAtRest c limit base listed number rounds tick (waves_at table numbers) fs
+  pub settled : IsSettledCase c limit base listed number rounds tick (waves_at table numbers) fs
