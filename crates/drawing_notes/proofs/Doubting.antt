@@ -120,20 +120,20 @@ module _ (c : Circuit) (skew : ℕ → ℕ) where
   )
 
   doubts_some : (n : ℕ) (ds : List Doubt) (new : Doubt) → doubt_at c skew n ≡ Some new → DoubtsTo n ds → DoubtsTo (n + 1) (ds ++ new ∷ [])
-  doubts_some n ds new told is d = (
+  doubts_some n ds new doubted is d = (
     λ at. elim (Contains-push_cases ds new d at) [
       | inl before ↦ (let h = (is d).0 before in let below = h.0 in (omega (arith, below), h.1))
       | inr same ↦
-          let own : new.checker ≡ n = own_doubt n new told in
+          let own : new.checker ≡ n = own_doubt n new doubted in
           subst (λ (x : Doubt). (x.checker < n + 1) × (doubt_at c skew x.checker ≡ Some x)) same
-          (omega (arith, own), ap (doubt_at c skew) own ∙ told)
+          (omega (arith, own), ap (doubt_at c skew) own ∙ doubted)
     ],
     λ h. elim (cases_lt d.checker n) [
       | inl less ↦ Contains-append_left ds (new ∷ []) d ((is d).1 (less, h.1))
       | inr past ↦
           let below = h.0 in
           let here : d.checker ≡ n = omega (arith, below, past) in
-          let both : Some new ≡ Some d = sym told ∙ ap (doubt_at c skew) (sym here) ∙ h.1 in
+          let both : Some new ≡ Some d = sym doubted ∙ ap (doubt_at c skew) (sym here) ∙ h.1 in
           let same : new ≡ d = cc in
           subst (λ (x : Doubt). Contains (ds ++ new ∷ []) x) same (Contains-push ds new)
     ],
@@ -144,15 +144,15 @@ module _ (c : Circuit) (skew : ℕ → ℕ) where
     where
       by : (o : Option Doubt) → doubt_at c skew n ≡ o → DoubtsTo (n + 1) (ds ++ if_some o)
       by None none = subst (DoubtsTo (n + 1)) (sym (append-nil ds)) (doubts_none n ds none is)
-      by (Some d) told = doubts_some n ds d told is
+      by (Some d) doubted = doubts_some n ds d doubted is
 
   -- in whatever order
   pub doubts_all : (n : ℕ) (ds sorted : List Doubt) → length c.instances ≤ n → IsPermutation ds sorted → DoubtsTo n ds → AreDoubts c skew sorted
   doubts_all n ds sorted whole turned is d = (
     λ at. ((is d).0 (Contains-permutation sorted ds d (IsPermutation-sym ds sorted turned) at)).1,
-    λ told.
-        let inside = doubt_inside d.checker d told in
-        Contains-permutation ds sorted d turned ((is d).1 (omega (arith, inside, whole), told)),
+    λ doubted.
+        let inside = doubt_inside d.checker d doubted in
+        Contains-permutation ds sorted d turned ((is d).1 (omega (arith, inside, whole), doubted)),
   )
 
   -- ---- marks, one doubt after the other
@@ -175,8 +175,8 @@ module _ (c : Circuit) (skew : ℕ → ℕ) where
       marked_start marks long none = record { long = long; done = λ j below. absurd (omega (arith, below)); rest = λ k other. none k }
 
     module _ (are : AreDoubts c skew ds) where
-      pub told : (j : ℕ) → j < length ds → doubt_at c skew (at j).checker ≡ Some (at j)
-      told j below = (are (at j)).0 (Contains-get_or ds j nobody below)
+      pub doubted : (j : ℕ) → j < length ds → doubt_at c skew (at j).checker ≡ Some (at j)
+      doubted j below = (are (at j)).0 (Contains-get_or ds j nobody below)
 
       module _ (launched : ℕ → ℕ → Bool) where
         pub marked_more : (n : ℕ) (marks new : List Bool) (b : Bool) → n < length ds → b ≡ launched (at n).clock (at n).input →
@@ -186,7 +186,7 @@ module _ (c : Circuit) (skew : ℕ → ℕ) where
           done = λ j below. elim (cases_eq (at j).checker here.checker) [
             | inl same ↦
                 let inside : j < length ds = omega (arith, below, within) in
-                let both : Some (at j) ≡ Some here = sym (told j inside) ∙ ap (doubt_at c skew) same ∙ told n within in
+                let both : Some (at j) ≡ Some here = sym (doubted j inside) ∙ ap (doubt_at c skew) same ∙ doubted n within in
                 let one : at j ≡ here = cc in
                 ap (marked_in new) same ∙ at_here ∙ mark ∙ sym (ap (λ (x : Doubt). launched x.clock x.input) one)
             | inr other ↦ elim (cases_lt j n) [
@@ -205,7 +205,7 @@ module _ (c : Circuit) (skew : ℕ → ℕ) where
             here = at n
 
             exists : here.checker < length marks
-            exists = let inside = doubt_inside here.checker here (told n within) in let long = before.long in omega (arith, inside, long)
+            exists = let inside = doubt_inside here.checker here (doubted n within) in let long = before.long in omega (arith, inside, long)
 
             at_here : marked_in new here.checker ≡ b
             at_here = ap (λ (ms : List Bool). marked_in ms here.checker) put ∙ get_or-set_same marks here.checker b false exists
@@ -218,7 +218,7 @@ module _ (c : Circuit) (skew : ℕ → ℕ) where
           where
             by : (o : Option Doubt) → doubt_at c skew k ≡ o → marked_in marks k ≡ is_common_by launched o
             by None none = is.rest k (λ j below same.
-                let no : None ≡ Some (at j) = sym none ∙ ap (doubt_at c skew) (sym same) ∙ told j (omega (arith, below, whole)) in
+                let no : None ≡ Some (at j) = sym none ∙ ap (doubt_at c skew) (sym same) ∙ doubted j (omega (arith, below, whole)) in
                 absurd cc)
             by (Some d) tells =
                 let own : d.checker ≡ k = own_doubt k d tells in

@@ -53,12 +53,12 @@ pub fn add_loops(
 {
     c.known();
     let sizes = sizes(alloc, parts)?;
-    let mut told = NetSet::new(alloc, c.net_count())?;
+    let mut noted = NetSet::new(alloc, c.net_count())?;
     for place in 0..c.net_count() {
         let net = c.net_at(place);
         if let Some(root) = part_at(parts, net) {
-            if !told.has(root) {
-                told.add(root);
+            if !noted.has(root) {
+                noted.add(root);
                 notes.add(&[
                     Piece::Text(b"NOTE LOOP "),
                     net_piece(c, net),

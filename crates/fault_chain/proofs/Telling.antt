@@ -1,4 +1,4 @@
--- What is told after one case more.
+-- What is reported after one case more.
 use Rattle.std.proofs.Common.{◌≡◌, ℕ, ◌+◌, List, [], ◌∷◌, ◌++◌, length, sym, ap, ◌∙◌}
 use Rattle.std.specs.List.{flat_map}
 use Rattle.std.proofs.lemmas.Grind.{flat_map-append}
@@ -19,13 +19,13 @@ last_text c cases one =
 pub text_more : (c : Circuit) (head before after : List ℕ) (cases : List Case) (one : Case) (number : ℕ) (found : List Fault) →
     before ≡ head ++ flat_map (case_text c) cases → number ≡ one.listed.number → found ≡ faults_of c one.waves →
     after ≡ before ++ case_lines c number one.waves found → after ≡ head ++ flat_map (case_text c) (cases ++ one ∷ [])
-text_more c head before after cases one number found told same are is =
-    is ∙ (λ k. told k ++ case_lines c (same k) one.waves (are k))
+text_more c head before after cases one number found were same are is =
+    is ∙ (λ k. were k ++ case_lines c (same k) one.waves (are k))
     ∙ append_assoc head (flat_map (case_text c) cases) (case_text c one)
     ∙ ap (λ (text : List ℕ). head ++ text) (sym (last_text c cases one))
 
 -- and its faults are counted
 pub count_more : (c : Circuit) (before after : ℕ) (cases : List Case) (one : Case) (found : List Fault) →
     before ≡ fault_count c cases → found ≡ faults_of c one.waves → after ≡ before + length found → after ≡ fault_count c (cases ++ one ∷ [])
-count_more c before after cases one found told are is =
-    is ∙ (λ k. told k + length (are k)) ∙ sym (sum_by_push (λ (case : Case). length (faults c case)) cases one)
+count_more c before after cases one found were are is =
+    is ∙ (λ k. were k + length (are k)) ∙ sym (sum_by_push (λ (case : Case). length (faults c case)) cases one)

@@ -68,7 +68,7 @@ notes_follow {A} step at place s t k h = by (step at s) refl
     by : (o : Outcome A) → step at s ≡ o → Follows o (step place t)
     by (Gives a u) e =
         let n = k a u e in
-        let m = noted_alike n.notes n.notes s t u (λ v. refl) h n.told in
+        let m = noted_alike n.notes n.notes s t u (λ v. refl) h n.noted_is in
         record { state = m.state; is = n.does place t m.state m.is; alike = m.alike }
     by (Fails kind where_) e = tt
 

@@ -18,7 +18,7 @@ use Rattle.format_upgrade.proofs.Exchange.{behind, all_noted, noted_append}
 -- A step at any place: what it gave of one circuit came of notes, and it gives the same wherever these are not refused.
 pub record Notes {A : Type 0} (step : Place → State → Outcome A) (s : State) (a : A) (t : State) : Type 0 where
   pub notes : List Note
-  pub told : all_noted notes s ≡ Some t
+  pub noted_is : all_noted notes s ≡ Some t
   pub does : (at : Place) (u v : State) → all_noted notes u ≡ Some v → step at u ≡ Gives a v
 
 -- ---- steps that end
@@ -57,7 +57,7 @@ still_notes : {A : Type 0} (a : A) (s t : State) (b : A) → Gives a s ≡ Gives
 still_notes a s t b h =
     let value : a ≡ b = cc in
     let state : s ≡ t = cc in
-    record { notes = []; told = ap Some state; does = λ at u v e. let is : u ≡ v = cc in rw (value, is) refl }
+    record { notes = []; noted_is = ap Some state; does = λ at u v e. let is : u ≡ v = cc in rw (value, is) refl }
 
 after_notes : {A B : Type 0} (step : Place → State → Outcome A) (next : A → Place → State → Outcome B) (at : Place) (s : State) (b : B) (t : State) →
     ((a : A) (u : State) → step at s ≡ Gives a u → Notes step s a u) →
@@ -69,7 +69,7 @@ after_notes step next at s b t k l h =
     let rest = l p.value p.state p.rest in
     record {
       notes = first.notes ++ rest.notes;
-      told = noted_both first.notes rest.notes s p.state t first.told rest.told;
+      noted_is = noted_both first.notes rest.notes s p.state t first.noted_is rest.noted_is;
       does = λ place u v e.
           let q = noted_parts first.notes rest.notes u v e in
           ap (λ o. after o (λ a w. next a place w)) (first.does place u q.state q.first) ∙ rest.does place q.state v q.rest;
@@ -129,7 +129,7 @@ module _ (text : List ℕ) (spec : AssertSpec) (i : ℕ) where
       let found = net_by at s (clashes s.asserted text spec) (has_name s.names the_net) (nat_lt (length s.names) most_bits) refl refl refl bits t given in
       record {
         notes = the_notes;
-        told = found.1;
+        noted_is = found.1;
         does = λ place u v e.
             net_does place u v (clashes u.asserted text spec) (has_name u.names the_net) (nat_lt (length u.names) most_bits) refl refl refl e
             ∙ ap (λ x. Gives x v) (sym found.0);

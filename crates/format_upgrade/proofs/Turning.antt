@@ -51,14 +51,14 @@ module _ (scope : Scope) where
     pub notes : List (List Note)
     pub is : zs ≡ before ++ joined
     pub mean : AllMean cs joined notes
-    pub told : all_noted (all_notes notes) s ≡ Some t
+    pub noted_is : all_noted (all_notes notes) s ≡ Some t
 
   meant_so : (at : Place) (before : List Joined) (cs : List Connection) (s : State) (zs : List Joined) (t : State) →
       gathered (joined scope at) before cs s ≡ Gives zs t → Meant before cs s zs t
   meant_so at before [] s zs t h =
       let values : before ≡ zs = cc in
       let states : s ≡ t = cc in
-      record { joined = []; notes = []; is = sym values ∙ sym (append-nil before); mean = tt; told = ap Some states }
+      record { joined = []; notes = []; is = sym values ∙ sym (append-nil before); mean = tt; noted_is = ap Some states }
   meant_so at before (c ∷ cs) s zs t h =
       let p = parts_of (joined scope at c s) _ zs t h in
       let one = joined_one scope at c s p.value p.state p.first in
@@ -69,7 +69,7 @@ module _ (scope : Scope) where
         notes = n.notes ∷ more.notes;
         is = more.is ∙ ap (λ js. (before ++ js) ++ more.joined) one.is ∙ append_assoc before (one.one ∷ []) more.joined;
         mean = (record { does = λ place u v e. n.does place u v e ∙ ap (λ js. Gives js v) one.is }, more.mean);
-        told = noted_both n.notes (all_notes more.notes) s p.state t n.told more.told;
+        noted_is = noted_both n.notes (all_notes more.notes) s p.state t n.noted_is more.noted_is;
       }
 
   means_so : (at : Place) (before : List Joined) (cs : List Connection) (js : List Joined) (ns : List (List Note)) (s t : State) → AllMean cs js ns →
@@ -113,30 +113,30 @@ module _ (scope : Scope) where
     -- what one list of connections meant, another means that makes notes which are seen alike
     turned_by : (ms ns : List (List Note)) (ds : List Connection) (js : List Joined) (u : State) → ((v : Sight) → all_seen (all_notes ns) v ≡ all_seen (all_notes ms) v) →
         all_noted (all_notes ms) s ≡ Some u → AllMean ds js ns → GivesAlike js u (gathered (joined scope place) [] ds t)
-    turned_by ms ns ds js u same told mean =
-        let n = noted_alike (all_notes ms) (all_notes ns) s t u same alike told in
+    turned_by ms ns ds js u same noted_is mean =
+        let n = noted_alike (all_notes ms) (all_notes ns) s t u same alike noted_is in
         record { state = n.state; is = means_so place [] ds js ns t n.state mean n.is; alike = n.alike }
 
     two_by : (a b : Connection) (rest : List Connection) (js : List Joined) (ns : List (List Note)) (u : State) → AllMean (a ∷ b ∷ rest) js ns →
         all_noted (all_notes ns) s ≡ Some u → GivesAlike (first_reversed 2 js) u (gathered (joined scope place) [] (b ∷ a ∷ rest) t)
-    two_by a b rest (i ∷ j ∷ js) (m ∷ n ∷ ns) u mean told =
-        turned_by (m ∷ n ∷ ns) (n ∷ m ∷ ns) (b ∷ a ∷ rest) (j ∷ i ∷ js) u (λ v. first_exchanged n m (all_notes ns) v) told (mean.1.0, (mean.0, mean.1.1))
-    two_by a b rest [] ns u mean told = absurd mean
-    two_by a b rest (i ∷ js) [] u mean told = absurd mean
-    two_by a b rest (i ∷ []) (m ∷ ns) u mean told = absurd mean.1
-    two_by a b rest (i ∷ j ∷ js) (m ∷ []) u mean told = absurd mean.1
+    two_by a b rest (i ∷ j ∷ js) (m ∷ n ∷ ns) u mean noted_is =
+        turned_by (m ∷ n ∷ ns) (n ∷ m ∷ ns) (b ∷ a ∷ rest) (j ∷ i ∷ js) u (λ v. first_exchanged n m (all_notes ns) v) noted_is (mean.1.0, (mean.0, mean.1.1))
+    two_by a b rest [] ns u mean noted_is = absurd mean
+    two_by a b rest (i ∷ js) [] u mean noted_is = absurd mean
+    two_by a b rest (i ∷ []) (m ∷ ns) u mean noted_is = absurd mean.1
+    two_by a b rest (i ∷ j ∷ js) (m ∷ []) u mean noted_is = absurd mean.1
 
     three_by : (a b c : Connection) (rest : List Connection) (js : List Joined) (ns : List (List Note)) (u : State) → AllMean (a ∷ b ∷ c ∷ rest) js ns →
         all_noted (all_notes ns) s ≡ Some u → GivesAlike (first_reversed 3 js) u (gathered (joined scope place) [] (c ∷ b ∷ a ∷ rest) t)
-    three_by a b c rest (i ∷ j ∷ k ∷ js) (l ∷ m ∷ n ∷ ns) u mean told =
-        turned_by (l ∷ m ∷ n ∷ ns) (n ∷ m ∷ l ∷ ns) (c ∷ b ∷ a ∷ rest) (k ∷ j ∷ i ∷ js) u (λ v. three_exchanged l m n (all_notes ns) v) told
+    three_by a b c rest (i ∷ j ∷ k ∷ js) (l ∷ m ∷ n ∷ ns) u mean noted_is =
+        turned_by (l ∷ m ∷ n ∷ ns) (n ∷ m ∷ l ∷ ns) (c ∷ b ∷ a ∷ rest) (k ∷ j ∷ i ∷ js) u (λ v. three_exchanged l m n (all_notes ns) v) noted_is
         (mean.1.1.0, (mean.1.0, (mean.0, mean.1.1.1)))
-    three_by a b c rest [] ns u mean told = absurd mean
-    three_by a b c rest (i ∷ js) [] u mean told = absurd mean
-    three_by a b c rest (i ∷ []) (l ∷ ns) u mean told = absurd mean.1
-    three_by a b c rest (i ∷ j ∷ js) (l ∷ []) u mean told = absurd mean.1
-    three_by a b c rest (i ∷ j ∷ []) (l ∷ m ∷ ns) u mean told = absurd mean.1.1
-    three_by a b c rest (i ∷ j ∷ k ∷ js) (l ∷ m ∷ []) u mean told = absurd mean.1.1
+    three_by a b c rest [] ns u mean noted_is = absurd mean
+    three_by a b c rest (i ∷ js) [] u mean noted_is = absurd mean
+    three_by a b c rest (i ∷ []) (l ∷ ns) u mean noted_is = absurd mean.1
+    three_by a b c rest (i ∷ j ∷ js) (l ∷ []) u mean noted_is = absurd mean.1
+    three_by a b c rest (i ∷ j ∷ []) (l ∷ m ∷ ns) u mean noted_is = absurd mean.1.1
+    three_by a b c rest (i ∷ j ∷ k ∷ js) (l ∷ m ∷ []) u mean noted_is = absurd mean.1.1
 
     pub two_turned : (a b : Connection) (rest : List Connection) →
         FollowsAs (λ zs. first_reversed 2 zs) (all_joined scope at (a ∷ b ∷ rest) s) (all_joined scope place (b ∷ a ∷ rest) t)
@@ -148,7 +148,7 @@ module _ (scope : Scope) where
         by (Gives js u) e =
             let m = meant_so at [] (a ∷ b ∷ rest) s js u e in
             subst (λ zs. GivesAlike (first_reversed 2 zs) u (gathered (joined scope place) [] (b ∷ a ∷ rest) t)) (sym m.is)
-            (two_by a b rest m.joined m.notes u m.mean m.told)
+            (two_by a b rest m.joined m.notes u m.mean m.noted_is)
         by (Fails kind where_) e = tt
 
     pub three_turned : (a b c : Connection) (rest : List Connection) →
@@ -161,7 +161,7 @@ module _ (scope : Scope) where
         by (Gives js u) e =
             let m = meant_so at [] (a ∷ b ∷ c ∷ rest) s js u e in
             subst (λ zs. GivesAlike (first_reversed 3 zs) u (gathered (joined scope place) [] (c ∷ b ∷ a ∷ rest) t)) (sym m.is)
-            (three_by a b c rest m.joined m.notes u m.mean m.told)
+            (three_by a b c rest m.joined m.notes u m.mean m.noted_is)
         by (Fails kind where_) e = tt
 
     -- connections in their own order
@@ -173,7 +173,7 @@ module _ (scope : Scope) where
         by (Gives js u) e =
             let m = meant_so at [] cs s js u e in
             subst (λ zs. GivesAlike zs u (gathered (joined scope place) [] cs t)) (sym m.is)
-            (turned_by m.notes m.notes cs m.joined u (λ v. refl) m.told m.mean)
+            (turned_by m.notes m.notes cs m.joined u (λ v. refl) m.noted_is m.mean)
         by (Fails kind where_) e = tt
 
   -- ---- places of connections

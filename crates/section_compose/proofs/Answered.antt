@@ -27,8 +27,8 @@ use Rattle.section_compose.specs.Reading.{IsRefusedIn}
 pub replied_so : {A E : Type 0} (r : Result A E) (outcome : A → SectionsOutcome) (bytes : A → List ℕ) (o : SectionsOutcome) (out : List ℕ)
     (P : SectionsOutcome → List ℕ → Type 0) → IfOk r (λ x. outcome x ≡ o) → IfOk r (λ x. bytes x ≡ out) → P o out →
     IfOk r (λ x. P (outcome x) (bytes x))
-replied_so (Ok x) outcome bytes o out P is told holds = subst (λ (b : List ℕ). P (outcome x) b) (sym told) (subst (λ (o : SectionsOutcome). P o out) (sym is) holds)
-replied_so (Err e) outcome bytes o out P is told holds = tt
+replied_so (Ok x) outcome bytes o out P is bytes_are holds = subst (λ (b : List ℕ). P (outcome x) b) (sym bytes_are) (subst (λ (o : SectionsOutcome). P o out) (sym is) holds)
+replied_so (Err e) outcome bytes o out P is bytes_are holds = tt
 
 -- and what follows of an outcome that is not the one
 pub never_so : {A E : Type 0} (r : Result A E) (outcome : A → SectionsOutcome) (o other : SectionsOutcome) (P : Type 0) →
@@ -40,41 +40,41 @@ never_so (Err e) outcome o other P is differ = tt
 pub unsettled_so : {A E : Type 0} (r : Result A E) (outcome : A → SectionsOutcome) (bytes : A → List ℕ) (section n k n' k' : ℕ) (line : ℕ → ℕ → List ℕ)
     (P : SectionsOutcome → List ℕ → Type 0) → n' ≡ n → k' ≡ k → IfOk r (λ x. outcome x ≡ Unsettled section n' k') → IfOk r (λ x. bytes x ≡ line n' k') →
     P (Unsettled section n k) (line n k) → IfOk r (λ x. P (outcome x) (bytes x))
-unsettled_so r outcome bytes section n k n' k' line P same round is told holds =
-    replied_so r outcome bytes (Unsettled section n' k') (line n' k') P is told
+unsettled_so r outcome bytes section n k n' k' line P same round is bytes_are holds =
+    replied_so r outcome bytes (Unsettled section n' k') (line n' k') P is bytes_are
     (subst (λ (m : ℕ). P (Unsettled section m k') (line m k')) (sym same) (subst (λ (m : ℕ). P (Unsettled section n m) (line n m)) (sym round) holds))
 
 pub refused_as : {A E : Type 0} (r : Result A E) (outcome : A → SectionsOutcome) (bytes : A → List ℕ) (n n' : ℕ) (why why' : Refusal)
     (P : SectionsOutcome → List ℕ → Type 0) → n' ≡ n → why' ≡ why → IfOk r (λ x. outcome x ≡ Refused n' why') →
     IfOk r (λ x. bytes x ≡ refused_lines n' why') → P (Refused n why) (refused_lines n why) → IfOk r (λ x. P (outcome x) (bytes x))
-refused_as r outcome bytes n n' why why' P same reason is told holds =
-    replied_so r outcome bytes (Refused n' why') (refused_lines n' why') P is told
+refused_as r outcome bytes n n' why why' P same reason is bytes_are holds =
+    replied_so r outcome bytes (Refused n' why') (refused_lines n' why') P is bytes_are
     (subst (λ (m : ℕ). P (Refused m why') (refused_lines m why')) (sym same) (subst (λ (w : Refusal). P (Refused n w) (refused_lines n w)) (sym reason) holds))
 
--- ---- the section that a broken rule is told of
+-- ---- the section whose rule is broken
 
 module _ (sections : List Section) (b : Broken) (found : IsOfSection (circuits sections) 1 b) where
   place_is : b.section - 1 ≡ found.place
   place_is = let numbered = found.section in omega (arith, numbered)
 
-  pub told_below : b.section - 1 < length sections
-  told_below =
+  pub broken_below : b.section - 1 < length sections
+  broken_below =
       let within = slice_get_within (circuits sections) found.place found.circuit found.is in
       let long = length-map sections (λ (s : Section). s.circuit) in
       let place = place_is in
       omega (arith, within, long, place)
 
-  pub told_circuit : (x : Section) → x ≡ get_or sections (b.section - 1) x → slice_get (circuits sections) (b.section - 1) ≡ Some x.circuit
-  told_circuit x is =
+  pub broken_circuit : (x : Section) → x ≡ get_or sections (b.section - 1) x → slice_get (circuits sections) (b.section - 1) ≡ Some x.circuit
+  broken_circuit x is =
       slice_get-map (λ (s : Section). s.circuit) sections (b.section - 1)
-      ∙ ap (option_map (λ (s : Section). s.circuit)) (slice_get_read sections (length sections) (b.section - 1) x refl told_below is)
+      ∙ ap (option_map (λ (s : Section). s.circuit)) (slice_get_read sections (length sections) (b.section - 1) x refl broken_below is)
 
-  pub told_place : (x : Section) → x ≡ get_or sections (b.section - 1) x → is_of_net b.rule ≡ true → b.net < length x.circuit.order
-  told_place x is of_net = subst (λ (c : Circuit). b.net < length c.order) same (found.net of_net)
+  pub broken_place : (x : Section) → x ≡ get_or sections (b.section - 1) x → is_of_net b.rule ≡ true → b.net < length x.circuit.order
+  broken_place x is of_net = subst (λ (c : Circuit). b.net < length c.order) same (found.net of_net)
     where
       same : found.circuit ≡ x.circuit
       same =
-          let e : Some found.circuit ≡ Some x.circuit = sym found.is ∙ ap (slice_get (circuits sections)) (sym place_is) ∙ told_circuit x is in cc
+          let e : Some found.circuit ≡ Some x.circuit = sym found.is ∙ ap (slice_get (circuits sections)) (sym place_is) ∙ broken_circuit x is in cc
 
 -- ---- all sections
 

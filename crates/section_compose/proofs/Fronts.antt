@@ -113,13 +113,13 @@ module _ (sections : List Section) (s : ℕ) (bytes : List ℕ) (tick total : �
       number ≡ s + 1 → bytes' ≡ bytes ++ section_lines number x settling →
       tick' ≡ max tick (tick_of x.circuit settling) → total' ≡ total + length (faults_in x.circuit settling) → length (faults_in x.circuit settling) ≤ 458752 →
       IsFront sections (s + 1) bytes' tick' total'
-  front_more settling bytes' tick' total' number at numbered told later more small = record {
+  front_more settling bytes' tick' total' number at numbered bytes_are later more small = record {
     settlings = so_far.settlings ++ settling ∷ [];
     settled =
         subst (λ (cs : List Circuit). AllSettled (circuits sections) cs (so_far.settlings ++ settling ∷ [])) (sym next_circuits)
         (settled_more (circuits sections) (circuits (take s sections)) so_far.settlings x.circuit settling so_far.settled at);
     lines =
-        told
+        bytes_are
         ∙ (λ k. so_far.lines k ++ section_lines ((numbered ∙ (let e : s + 1 ≡ 1 + length (take s sections) = omega (arith, taken) in e)) k) x settling)
         ∙ sym (lines_more 1 (take s sections) so_far.settlings x settling settlings_many)
         ∙ ap (λ (xs : List Section). all_lines 1 xs (so_far.settlings ++ settling ∷ [])) (sym next);
@@ -166,7 +166,7 @@ front_stops sections s bytes tick total so_far x below is place never = (
 -- all have settled: the report
 pub front_whole : (sections : List Section) (s : ℕ) (bytes : List ℕ) (tick total : ℕ) → IsFront sections s bytes tick total → length sections ≤ s → first_broken sections ≡ None →
     (o : SectionsOutcome) (out : List ℕ) → o ≡ verdict_of total → out ≡ bytes ++ (sections_line (length sections) tick ++ last_line total) → Concluded sections o out
-front_whole sections s bytes tick total so_far past kept o out is told =
+front_whole sections s bytes tick total so_far past kept o out is bytes_are =
     subst (λ (o : SectionsOutcome). Concluded sections o out) (sym (is ∙ ap verdict_of count))
     (subst (Concluded sections (verdict_of (all_faults (circuits sections) so_far.settlings))) (sym text)
     (answer.settled so_far.settlings kept (subst (λ (xs : List Section). AllSettled (circuits sections) (circuits xs) so_far.settlings) whole so_far.settled)))
@@ -184,12 +184,12 @@ front_whole sections s bytes tick total so_far past kept o out is told =
     lines = so_far.lines ∙ ap (λ (xs : List Section). all_lines 1 xs so_far.settlings) whole
 
     text : out ≡ report sections so_far.settlings
-    text = told ∙ (λ k. lines k ++ (sections_line (length sections) (latest k) ++ last_line (count k)))
+    text = bytes_are ∙ (λ k. lines k ++ (sections_line (length sections) (latest k) ++ last_line (count k)))
 
 pub stops_so : (sections : List Section) (s place round section : ℕ) (c : Circuit) → first_broken sections ≡ None →
     ((stops : StopsAt (circuits sections) s place) × (stops.circuit ≡ c)) → section ≡ s + 1 → round ≡ default_limit c →
     (o : SectionsOutcome) (out : List ℕ) → o ≡ Unsettled section place round → out ≡ section_line section ++ unsettled_line c place round → Concluded sections o out
-stops_so sections s place round section c kept stops numbered limit o out is told =
+stops_so sections s place round section c kept stops numbered limit o out is bytes_are =
     subst (λ (o : SectionsOutcome). Concluded sections o out) (sym (is ∙ (λ k. Unsettled (numbered k) place (round_is k))))
     (subst (Concluded sections (Unsettled (s + 1) place (default_limit stops.0.circuit))) (sym text) (answer.unsettled s place kept stops.0))
   where
@@ -197,4 +197,4 @@ stops_so sections s place round section c kept stops numbered limit o out is tol
     round_is = limit ∙ ap default_limit (sym stops.1)
 
     text : out ≡ unsettled_lines (s + 1) stops.0.circuit place
-    text = told ∙ (λ k. section_line (numbered k) ++ unsettled_line (sym stops.1 k) place (round_is k))
+    text = bytes_are ∙ (λ k. section_line (numbered k) ++ unsettled_line (sym stops.1 k) place (round_is k))

@@ -1,4 +1,4 @@
--- What is written alike: assertions, and the clocks of headers. Tests, since the rules are told by them.
+-- What is written alike: assertions, and the clocks of headers. Tests, since the rules are stated by them.
 use Rattle.std.specs.Prelude.{ℕ, ◌==◌, Bool, true, false, not, ◌&&◌, if◌then◌else◌, List, [], ◌∷◌, Option, Some, None}
 use Rattle.scald_base.specs.Time.{Header}
 use Rattle.scald_base.specs.declared.assertion.Span.{Span}

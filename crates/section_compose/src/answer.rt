@@ -119,7 +119,7 @@ fn read_sections(alloc: Global, text: &[u8], pieces: &[Piece]) -> Result<List<Se
 
 // ---- what is answered to them
 
-/// The section that a broken rule is told of.
+/// The section whose rule is broken.
 fn broken_in(sections: &[Section], broken: Broken) -> &Circuit
     requires { IsOfSection (circuits sections.now) 1 broken }
     ensures section { slice_get (circuits sections.now) (broken.section - 1) ≡ Some result.now }

@@ -99,7 +99,7 @@ fn add_site(out: &mut Lines, text: &[u8], place: Option<Place>, before: u32) {
     }
 }
 
-/// What is told of a section that breaks a rule by itself.
+/// What is said of a section that breaks a rule by itself.
 fn add_header(
     alloc: Global,
     out: &mut Lines,
@@ -122,7 +122,7 @@ fn add_header(
     add_site(out, text, place_of_word(alloc, lines, word), before);
 }
 
-/// What is told of a net that breaks a rule in one section beside another, both counted from 0.
+/// What is said of a net that breaks a rule in one section beside another, both counted from 0.
 fn add_net(
     alloc: Global,
     out: &mut Lines,
@@ -165,7 +165,7 @@ fn add_net(
     );
 }
 
-/// What is told of a rule that is broken.
+/// What is said of a rule that is broken.
 fn add_broken(
     alloc: Global,
     out: &mut Lines,

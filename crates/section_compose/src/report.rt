@@ -80,7 +80,7 @@ impl Report {
             (settling_in settling.now.settled.rounds settling.now.store
             settling.now.settled.numbers) }
         requires few { length settling.now.faults ≤ 458752 }
-        ensures told { OnOk result (self.new.bytes ≡ self.old.bytes
+        ensures lines { OnOk result (self.new.bytes ≡ self.old.bytes
             ++ section_lines number section.now
             (settling_in settling.now.settled.rounds settling.now.store
             settling.now.settled.numbers)) }

@@ -45,7 +45,7 @@ drawing_refusal text tokens NoMemory r are is e = cc
 
 pub text_refusal : (text : List ℕ) (stop : Stop) (r : Refusal) →
     ((q : Refusal) → stop ≡ Refused q → IsRefusal text q) → stop ≡ Refused r → IsTextRefused text r
-text_refusal text stop r told e = undrawn (told r e)
+text_refusal text stop r refuses e = undrawn (refuses r e)
 
 pub expansion_refusal : (text : List ℕ) (d : Drawing) (stop : Stop) (r : Refusal) →
     TextDraws text d → IsStopOf d stop → stop ≡ Refused r → IsTextRefused text r
@@ -59,8 +59,8 @@ cases_are s d r is = is
 pub cases_refusal : (text : List ℕ) (d : Drawing) (c : Circuit) (draws : Draws text d c)
     (stop : Stop) (r : Refusal) → AreCasesStop c d.cases stop → stop ≡ Refused r → IsTextRefused text r
 cases_refusal text d c draws stop r is e =
-    let told : AreCasesStop c d.cases (Refused r) = subst (AreCasesStop c d.cases) e is in
-    wrong_cases d c draws (cases_are draws.circuit.state d _ (told draws.circuit.state draws.circuit.stands))
+    let refuses : AreCasesStop c d.cases (Refused r) = subst (AreCasesStop c d.cases) e is in
+    wrong_cases d c draws (cases_are draws.circuit.state d _ (refuses draws.circuit.state draws.circuit.stands))
 
 -- the nets of the cases that are listed exist
 pub listed_exist : (c : Circuit) (cases : List (List CaseValue)) → All (IsListed c) cases →

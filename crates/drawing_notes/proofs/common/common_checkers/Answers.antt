@@ -5,7 +5,7 @@ use Rattle.drawing_notes.specs.Parts.{together}
 use Rattle.drawing_notes.specs.Paths.{is_looped}
 use Rattle.drawing_notes.specs.Common.{skew_at}
 use Rattle.drawing_notes.specs.Doubts.{AreDoubts, IsLaunched}
-use Rattle.drawing_notes.proofs.Doubting.{at, clock_exists, doubt_inside, marked_all, marked_more, told}
+use Rattle.drawing_notes.proofs.Doubting.{at, clock_exists, doubt_inside, marked_all, marked_more, doubted}
 use Rattle.drawing_notes.proofs.common.common_checkers.Goals as goal
 
 pub find_launched-requires-clause-exists : goal.find_launched-requires-clause-exists
@@ -15,7 +15,7 @@ find_launched-requires-clause-exists c =
     let list = c.as_slice-doubt-items.result.now in
     let are : AreDoubts circuit skew list = subst (AreDoubts circuit skew) (sym c.as_slice-doubt-items.ensures.value) c.in_ok-doubts.ensures in
     let d = at circuit skew list c.loop-doubt.doubt-index in
-    clock_exists circuit skew d.checker d c.known.ensures (told circuit skew list are c.loop-doubt.doubt-index c.loop-doubt-test.true)
+    clock_exists circuit skew d.checker d c.known.ensures (doubted circuit skew list are c.loop-doubt.doubt-index c.loop-doubt-test.true)
 
 pub index_mut-requires : goal.index_mut-requires
 index_mut-requires c =
@@ -24,7 +24,7 @@ index_mut-requires c =
     let list = c.as_slice-doubt-items.result.now in
     let are : AreDoubts circuit skew list = subst (AreDoubts circuit skew) (sym c.as_slice-doubt-items.ensures.value) c.in_ok-doubts.ensures in
     let d = at circuit skew list c.loop-doubt.doubt-index in
-    let inside = doubt_inside circuit skew d.checker d (told circuit skew list are c.loop-doubt.doubt-index c.loop-doubt-test.true) in
+    let inside = doubt_inside circuit skew d.checker d (doubted circuit skew list are c.loop-doubt.doubt-index c.loop-doubt-test.true) in
     let long = c.loop-doubt.invariant.long in
     omega (arith, inside, long, c.loop-doubt.common.ok.0)
 

@@ -26,7 +26,7 @@ loop-place-preserved c =
       | in-Some+then-not-has+in_ok-add w ↦
           let root = w.in-Some.root in
           let part = ap (part_at parts) (sym c.net_at-net.ensures) ∙ sym c.part_at.ensures ∙ w.in-Some.is in
-          let untold = sym (c.loop-place.invariant.told root) ∙ sym w.has.ensures ∙ w.if-not-has.true in
+          let unnoted = sym (c.loop-place.invariant.noted root) ∙ sym w.has.ensures ∙ w.if-not-has.true in
           let inside = c.requires.inside (net_at circuit.order place) root part in
           let below : root < length c.in_ok-sizes.sizes.items = omega (arith, inside, c.in_ok-sizes.ensures.long, c.requires.each_net) in
           let name = w.net_piece.ensures ∙ ap (net_text circuit) c.net_at-net.ensures in
@@ -34,43 +34,43 @@ loop-place-preserved c =
           ∙ c.in_ok-sizes.ensures.are root below ∙ ap (λ n. nets_on n parts root) c.requires.each_net in
           let told_so = ap (λ (t : List ℕ). line (codes "NOTE LOOP " ∷ t ∷ codes " NETS " ∷ decimal w.from.result ∷ []) ∷ []) name
           ∙ ap (λ n. line (codes "NOTE LOOP " ∷ net_text circuit (net_at circuit.order place) ∷ codes " NETS " ∷ decimal n ∷ []) ∷ []) size
-          ∙ sym (loop_first circuit parts place root part untold) in
+          ∙ sym (loop_first circuit parts place root part unnoted) in
           record {
-            each_net = ap length (w.told-is ∙ w.add.ensures) ∙ length-set c.loop-place.told root true ∙ c.loop-place.invariant.each_net;
+            each_net = ap length (w.noted-is ∙ w.add.ensures) ∙ length-set c.loop-place.noted root true ∙ c.loop-place.invariant.each_net;
             adds = subst (λ (t : Lines). Adds c.args.notes.now t
                 (flat_map (loop_at circuit (together parts)) (range_with_len 0 (place + 1))))
                 (sym w.notes-is)
                 (adds_number (loop_at circuit (together parts)) place c.args.notes.now c.loop-place.notes w.add-then-not-has.new.self c.loop-place.invariant.adds
                 (subst (Adds c.loop-place.notes w.add-then-not-has.new.self) told_so w.in_ok-add.ensures));
-            told = tells_first circuit.order parts place within c.loop-place.told c.match-part_at.told root part
-                (let each = c.loop-place.invariant.each_net in omega (arith, inside, each)) (w.told-is ∙ w.add.ensures) c.loop-place.invariant.told;
+            noted = tells_first circuit.order parts place within c.loop-place.noted c.match-part_at.noted root part
+                (let each = c.loop-place.invariant.each_net in omega (arith, inside, each)) (w.noted-is ∙ w.add.ensures) c.loop-place.invariant.noted;
           }
       | in-Some+else-not-has w ↦
           let root = w.in-Some.root in
           let part = ap (part_at parts) (sym c.net_at-net.ensures) ∙ sym c.part_at.ensures ∙ w.in-Some.is in
           let marked = sym w.has.ensures ∙ w.if-not-has.false in
-          let again = loop_again circuit parts place root part (sym (c.loop-place.invariant.told root) ∙ marked) in
+          let again = loop_again circuit parts place root part (sym (c.loop-place.invariant.noted root) ∙ marked) in
           record {
-            each_net = ap length w.told-is ∙ c.loop-place.invariant.each_net;
+            each_net = ap length w.noted-is ∙ c.loop-place.invariant.each_net;
             adds = subst (λ (t : Lines). Adds c.args.notes.now t
                 (flat_map (loop_at circuit (together parts)) (range_with_len 0 (place + 1))))
                 (sym w.notes-is)
                 (adds_number (loop_at circuit (together parts)) place c.args.notes.now c.loop-place.notes c.loop-place.notes c.loop-place.invariant.adds
                 (subst (Adds c.loop-place.notes c.loop-place.notes) (sym again) (adds_none c.loop-place.notes)));
-            told = λ r. ap (λ (ms : List Bool). marked_in ms r) w.told-is
-                ∙ tells_again circuit.order parts place within c.loop-place.told root part marked c.loop-place.invariant.told r;
+            noted = λ r. ap (λ (ms : List Bool). marked_in ms r) w.noted-is
+                ∙ tells_again circuit.order parts place within c.loop-place.noted root part marked c.loop-place.invariant.noted r;
           }
       | in_default w ↦
           let none = ap (part_at parts) (sym c.net_at-net.ensures) ∙ sym c.part_at.ensures ∙ w.in_default.is in
           record {
-            each_net = ap length w.told-is ∙ c.loop-place.invariant.each_net;
+            each_net = ap length w.noted-is ∙ c.loop-place.invariant.each_net;
             adds = subst (λ (t : Lines). Adds c.args.notes.now t
                 (flat_map (loop_at circuit (together parts)) (range_with_len 0 (place + 1))))
                 (sym w.notes-is)
                 (adds_number (loop_at circuit (together parts)) place c.args.notes.now c.loop-place.notes c.loop-place.notes c.loop-place.invariant.adds
                 (subst (Adds c.loop-place.notes c.loop-place.notes) (sym (loop_none circuit parts place none)) (adds_none c.loop-place.notes)));
-            told = λ r. ap (λ (ms : List Bool). marked_in ms r) w.told-is
-                ∙ tells_none circuit.order parts place within c.loop-place.told none c.loop-place.invariant.told r;
+            noted = λ r. ap (λ (ms : List Bool). marked_in ms r) w.noted-is
+                ∙ tells_none circuit.order parts place within c.loop-place.noted none c.loop-place.invariant.noted r;
           }
     ]
 

@@ -39,9 +39,9 @@ loop-place-preserved g c =
     let unknown = has_unknown (waves_of c.args.waves.now) in
     let long = order_long c.args.c.now.nets order c.known.ensures.by_name in
     let within : c.loop-place.place < length order = omega (arith, long, c.net_count-place-end.ensures, c.loop-place-test.true) in
-    let told : c.has_unknown.result ≡ unknown net =
+    let answered : c.has_unknown.result ≡ unknown net =
     c.has_unknown.ensures ∙ ap (list_any is_unknown) (c.wave.ensures ∙ ap (λ (w : Wave Value). w.cells) c.at.ensures) in
-    subst (IsCounted (filter unknown (take (c.loop-place.place + 1) order))) (sym (c.and-counted.ensures ∙ ap (and_net c.loop-place.counted net) told))
+    subst (IsCounted (filter unknown (take (c.loop-place.place + 1) order))) (sym (c.and-counted.ensures ∙ ap (and_net c.loop-place.counted net) answered))
     (counted_more unknown order c.loop-place.place net within c.net_at-net.ensures c.loop-place.counted c.loop-place.invariant)
 
 pub returns : goal.returns

@@ -29,7 +29,7 @@ in_for-turns-init t c =
     let first : to_z w64 (of_z w64 c.in-Ok.ends.0) ≡ c.in-Ok.ends.0 = omega (arith, ints) in
     let last : to_z w64 (of_z w64 c.in-Ok.ends.1) ≡ c.in-Ok.ends.1 = omega (arith, ints) in
     record {
-      told =
+      found_so =
           rw (first, last) (ap (λ (s : List Spread). c.args.found.now ++ s)
           (sym (for_turns c.args.library.now c.args.levels c.args.repeated.now c.args.scope.now c.in-Ok.ends.0 c.in-Ok.ends.1 c.in-Ok.ensures)));
       inner = c.in_ok-inner.ensures;
@@ -50,10 +50,10 @@ in_for-turns-preserved t c =
     let below : v <ℤ last = omega (arith, ints, c.turns-test.true) in
     let next : to_z w64 (of_z w64 (v +ℤ pos 1)) ≡ v +ℤ pos 1 = omega (arith, ints) in
     record {
-      told =
+      found_so =
           rw next (turns_more c.args.library.now c.args.levels c.args.repeated.now c.args.scope.now v last c.turns.inner went.inner
           c.turns.found c.in_statements.new.found (c.args.found.now ++ in_one c.args.library.now c.args.levels (for_of c.args.repeated.now) c.args.scope.now)
-          went.told (rw c.as_slice-body.ensures.value at c.in_ok-in_statements.ensures) below);
+          went.found_so (rw c.as_slice-body.ensures.value at c.in_ok-in_statements.ensures) below);
       inner = c.in_ok-turn_to.ensures;
       within = omega (arith, ints);
     }
@@ -66,7 +66,7 @@ in_for-returns t c =
     let at_last : v ≡ last = omega (arith, ints, c.turns-test.false, went.within) in
     on_ok_weaker c.in_statements-2.result (λ more. turns_done c.args.library.now c.args.levels c.args.repeated.now c.args.scope.now v last c.turns.inner went.inner
     c.turns.found c.in_statements-2.new.found (c.args.found.now ++ in_one c.args.library.now c.args.levels (for_of c.args.repeated.now) c.args.scope.now)
-    went.told (rw c.as_slice-body.ensures.value at more) at_last) c.in_statements-2.ensures
+    went.found_so (rw c.as_slice-body.ensures.value at more) at_last) c.in_statements-2.ensures
 
 -- ---- uses
 

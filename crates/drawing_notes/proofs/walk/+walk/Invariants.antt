@@ -34,7 +34,7 @@ decreases-in_for-turns l = gap l.value l.last
 
 abbrev pub invariant-in_for-turns : goal.invariant-in_for-turns
 invariant-in_for-turns l = record {
-  told : l.found ++ turns l.library l.levels l.repeated l.scope l.value l.last
+  found_so : l.found ++ turns l.library l.levels l.repeated l.scope l.value l.last
       ≡ l.fn.found ++ in_one l.library l.levels (for_of l.repeated) l.scope;
   inner : l.inner ≡ turned_scope l.repeated.var l.value l.scope;
   within : l.value ≤ℤ l.last;

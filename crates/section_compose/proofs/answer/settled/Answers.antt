@@ -28,7 +28,7 @@ loop-s-preserved c =
     let after = c.add_section.new.self in
     front_more sections c.loop-s.s before.bytes before.tick before.total c.loop-s.invariant c.index-sections-s.result c.loop-s-test.true c.index-sections-s.is
     here after.bytes after.tick after.total (c.loop-s.s + 1) c.in-Ok.ensures.settled refl
-    c.in_ok-add_section-in-Ok.ensures.told
+    c.in_ok-add_section-in-Ok.ensures.lines
     (c.in_ok-add_section-in-Ok.ensures.tick ∙ ap (max before.tick) c.in-Ok.ensures.tick)
     (c.in_ok-add_section-in-Ok.ensures.counted ∙ ap (λ fs. before.total + length fs) faults)
     (subst (λ fs. length fs ≤ 458752) faults c.in-Ok.ensures.few)

@@ -8,8 +8,8 @@ use Rattle.section_compose.specs.Lines.{section_line}
 use Rattle.section_compose.proofs.Fronts.{lines_joined}
 use Rattle.section_compose.proofs.report.Report.add_section.Goals as goal
 
-pub returns-clause-told : goal.returns-clause-told
-returns-clause-told g c =
+pub returns-clause-lines : goal.returns-clause-lines
+returns-clause-lines g c =
     let circuit = c.args.section.now.circuit in
     let settling = c.args.settling.now in
     let numbers = settling.settled.numbers in
