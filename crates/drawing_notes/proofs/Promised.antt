@@ -1,11 +1,10 @@
--- What the answer to a text says of the outcome of the call, and of what was written.
-use Rattle.std.proofs.Common.{◌≡◌, ◌∙◌, true, List, ℕ, length, refl, sym, ap, Option, None}
+-- What the answer to a text says of the outcome of the call.
+use Rattle.std.proofs.Common.{◌≡◌, ◌∙◌, true, List, ℕ, length, refl, sym, ap, None}
 use Rattle.scald_base.specs.declared.outcome.Outcome.{Outcome}
 use Rattle.scald_base.specs.Outcome.{end_of}
 use Rattle.program_call.specs.Program.{IsLawful}
-use Rattle.program_call.specs.Answer as answer
-use Rattle.program_call.specs.Answer.{settled, verdict_of}
-use Rattle.program_call.specs.Promise.{SettlesLoopless, Writes, may_count}
+use Rattle.program_call.specs.Answer.{verdict_of}
+use Rattle.program_call.specs.Promise.{SettlesLoopless, may_count}
 use Rattle.program_call.proofs.Judgement.{IsOne}
 use Rattle.program_call.proofs.Outcomes.{HoldsOfReports, evaluated_has, evaluated_settles}
 use Rattle.program_call.proofs.Outcomes.{verdict_counts, verdict_settles}
@@ -13,7 +12,6 @@ use Rattle.program_call.proofs.Speaking.{reporting_is_lawful, verdict_speaks}
 use Rattle.drawing_notes.specs.Paths.{Ways}
 use Rattle.drawing_notes.specs.Spreads.{spreads}
 use Rattle.drawing_notes.specs.Answer.{Noted, notes_of, notes_program, own_word}
-use Rattle.drawing_notes.specs.Promise.{WritesNotes}
 use Rattle.drawing_notes.specs.Report.{note_lines, notes}
 use Rattle.drawing_notes.proofs.OneWay.{one_way}
 
@@ -43,14 +41,6 @@ is_given text o bytes =
     bytes
     (λ d c base cases p bs is. ap may_count is.outcome
     ∙ verdict_counts (length (notes is.ways (spreads d) c cases)))
-
-pub is_written : (text : List ℕ) (o : Outcome) (taken taken' : Option (List ℕ)) →
-    ((reply : Outcome) (bytes : List ℕ) → Noted text reply bytes →
-    Writes reply bytes o taken taken') → WritesNotes text o taken taken'
-is_written text o taken taken' writes c values base cases drawn ways are settles are_settled =
-    writes _ _ (answer.judged c values _ _ drawn
-    (settled base cases _ _ settles are_settled
-    (record { ways = ways; are = are; outcome = refl; text = refl })))
 
 pub is_settled : (text : List ℕ) (o : Outcome) (bytes : List ℕ) → Noted text o bytes → SettlesLoopless text o
 is_settled text o bytes =

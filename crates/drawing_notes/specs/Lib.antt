@@ -19,5 +19,4 @@ pub mod Lines
 pub mod Unchecked
 pub mod Unread
 pub mod Answer
-pub mod Promise
 pub mod Report

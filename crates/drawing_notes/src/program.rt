@@ -5,9 +5,8 @@ ghost use Rattle.scald_base.specs.Device.{Rose};
 ghost use Rattle.program_call.specs.Call.{IsCall, devices, nothing_more};
 ghost use Rattle.program_call.specs.Program.{AreTold, asks, speaks};
 ghost use Rattle.program_call.specs.Wordless.{most_bytes};
-ghost use Rattle.program_call.specs.Promise.{SettlesLoopless, may_count};
-ghost use Rattle.drawing_notes.specs.Answer.{notes_program};
-ghost use Rattle.drawing_notes.specs.Promise.{WritesNotes};
+ghost use Rattle.program_call.specs.Promise.{SettlesLoopless, WritesReport, may_count};
+ghost use Rattle.drawing_notes.specs.Answer.{notes_of, notes_program};
 
 use crate::reply::Noting;
 use program_call::{Replier, Reply, Wordless, main_call, reply_to};
@@ -20,8 +19,7 @@ use step_values::Value;
 pub struct NotesProgram;
 
 impl Replier for NotesProgram {
-    ghost use Rattle.drawing_notes.specs.Answer.{Noted};
-    ghost use Rattle.drawing_notes.specs.Answer.{own_word};
+    ghost use Rattle.drawing_notes.specs.Answer.{Noted, own_word};
 
     ghost word = { own_word };
 
@@ -58,7 +56,7 @@ pub fn notes_main<S: Source, K: Sink>(
     ensures finished { IfSome (S.left source.old) (λ text. asks notes_program words.now ≡ true →
         length text ≤ most_bytes → ¬ Rose (S.faults source.old) (S.faults source.new) →
         ¬ Rose (K.faults sink.old) (K.faults sink.new) →
-        WritesNotes text result (K.taken sink.old) (K.taken sink.new)) }
+        WritesReport notes_of text result (K.taken sink.old) (K.taken sink.new)) }
 
     // Which outcomes speak of a text, whichever it is. Waves without loops settle.
     ensures given { speaks notes_program result ≡ true → may_count result ≡ true }

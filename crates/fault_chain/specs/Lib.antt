@@ -3,4 +3,3 @@ pub mod Met
 pub mod Report
 pub mod Answer
 pub mod Laws
-pub mod Promise

@@ -5,10 +5,9 @@ ghost use Rattle.scald_base.specs.Device.{Rose};
 ghost use Rattle.program_call.specs.Call.{IsCall, devices, nothing_more};
 ghost use Rattle.program_call.specs.Program.{AreTold, asks, speaks};
 ghost use Rattle.program_call.specs.Wordless.{most_bytes};
-ghost use Rattle.program_call.specs.Promise.{SettlesLoopless, may_count};
-ghost use Rattle.fault_chain.specs.Answer.{chains};
+ghost use Rattle.program_call.specs.Promise.{SettlesLoopless, WritesReport, may_count};
+ghost use Rattle.fault_chain.specs.Answer.{chains, chains_of};
 ghost use Rattle.fault_chain.specs.Laws.{ChainsAreWhole, DrawnChainsAreWhole};
-ghost use Rattle.fault_chain.specs.Promise.{WritesChains};
 
 use crate::reporter::Chains;
 use program_call::{Replier, Reply, Wordless, main_call, reply_to};
@@ -23,12 +22,11 @@ pub struct ChainProgram;
 impl Replier for ChainProgram {
     ghost use Rattle.std.specs.Prelude.{None};
     ghost use Rattle.program_call.specs.Answer.{Evaluated};
-    ghost use Rattle.fault_chain.specs.Answer.{AreChains};
-    ghost use Rattle.fault_chain.specs.Answer.{own_word};
+    ghost use Rattle.fault_chain.specs.Answer.{chains_of, own_word};
 
     ghost word = { own_word };
 
-    ghost replied = { Evaluated (λ d. AreChains d.version) None };
+    ghost replied = { Evaluated chains_of None };
 
     fn name() -> &'static [u8] {
         b"chains".as_slice()
@@ -61,7 +59,7 @@ pub fn chain_main<S: Source, K: Sink>(
     ensures finished { IfSome (S.left source.old) (λ text. asks chains words.now ≡ true →
         length text ≤ most_bytes → ¬ Rose (S.faults source.old) (S.faults source.new) →
         ¬ Rose (K.faults sink.old) (K.faults sink.new) →
-        WritesChains text result (K.taken sink.old) (K.taken sink.new)) }
+        WritesReport chains_of text result (K.taken sink.old) (K.taken sink.new)) }
 
     // Which outcomes speak of a text, whichever it is. Waves without loops settle.
     ensures given { speaks chains result ≡ true → may_count result ≡ true }

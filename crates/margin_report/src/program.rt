@@ -5,10 +5,10 @@ ghost use Rattle.scald_base.specs.Device.{Rose};
 ghost use Rattle.program_call.specs.Call.{IsCall, devices, nothing_more};
 ghost use Rattle.program_call.specs.Program.{AreTold, asks, speaks};
 ghost use Rattle.program_call.specs.Wordless.{most_bytes};
-ghost use Rattle.program_call.specs.Promise.{SettlesLoopless};
-ghost use Rattle.margin_report.specs.Answer.{margins};
+ghost use Rattle.program_call.specs.Promise.{SettlesLoopless, WritesReport};
+ghost use Rattle.margin_report.specs.Answer.{margins, margins_of};
 ghost use Rattle.margin_report.specs.Laws.{FittingIsMonotone, MarginsAreTrue};
-ghost use Rattle.margin_report.specs.Promise.{WritesMargins, may_answer};
+ghost use Rattle.margin_report.specs.Promise.{may_answer};
 ghost use Rattle.margin_report.specs.Tried.{TriedAsWritten};
 
 use crate::reporter::Margins;
@@ -24,12 +24,11 @@ pub struct MarginProgram;
 impl Replier for MarginProgram {
     ghost use Rattle.std.specs.Prelude.{None};
     ghost use Rattle.program_call.specs.Answer.{Evaluated};
-    ghost use Rattle.margin_report.specs.Answer.{AreMargins};
-    ghost use Rattle.margin_report.specs.Answer.{own_word};
+    ghost use Rattle.margin_report.specs.Answer.{margins_of, own_word};
 
     ghost word = { own_word };
 
-    ghost replied = { Evaluated (λ d. AreMargins d.version) None };
+    ghost replied = { Evaluated margins_of None };
 
     fn name() -> &'static [u8] {
         b"margins".as_slice()
@@ -62,7 +61,7 @@ pub fn margin_main<S: Source, K: Sink>(
     ensures finished { IfSome (S.left source.old) (λ text. asks margins words.now ≡ true →
         length text ≤ most_bytes → ¬ Rose (S.faults source.old) (S.faults source.new) →
         ¬ Rose (K.faults sink.old) (K.faults sink.new) →
-        WritesMargins text result (K.taken sink.old) (K.taken sink.new)) }
+        WritesReport margins_of text result (K.taken sink.old) (K.taken sink.new)) }
 
     // Which outcomes speak of a text, whichever it is. Waves without loops settle.
     ensures given { speaks margins result ≡ true → may_answer result ≡ true }

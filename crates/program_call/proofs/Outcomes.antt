@@ -19,7 +19,7 @@ use Rattle.program_call.specs.Answer as answer
 use Rattle.fixpoint_engine.specs.Start.{default_limit}
 use Rattle.program_call.specs.Answer.{Reporting, Concluded, Evaluated, limit_for, settled, unsettled}
 use Rattle.program_call.specs.Answer.{verdict_of}
-use Rattle.program_call.specs.Promise.{SettlesLoopless, may_count}
+use Rattle.program_call.specs.Promise.{SettlesLoopless, TextSettles, Writes, WritesReport, may_count}
 
 -- ---- by what is reported
 
@@ -49,6 +49,25 @@ evaluated_has P of_net of_refusal Reports rounds text _ _ holds
     (answer.judged c values o bytes draws j) =
     concluded_has P (Reports draws.drawing) c values (limit_for c rounds) o bytes
     (holds draws.drawing c) (λ place stops. of_net place (limit_for c rounds)) j
+
+-- ---- of a text that settles
+
+-- what is reported of it is answered
+pub settled_evaluated : (Reports : Drawing → Reporting) (rounds : Option ℕ) (text : List ℕ)
+    (text_settles : TextSettles rounds text) (o : Outcome) (bytes : List ℕ) →
+    Reports text_settles.drawn.drawing text_settles.circuit text_settles.base text_settles.cases
+    o bytes → Evaluated Reports rounds text o bytes
+settled_evaluated Reports rounds text is o bytes reported =
+    answer.judged is.circuit is.values o bytes is.drawn
+    (settled is.base is.cases o bytes is.settles is.are_settled reported)
+
+-- where what is answered is written, so is what is reported
+pub report_written : (Reports : Drawing → Reporting) (text : List ℕ) (o : Outcome)
+    (taken taken' : Option (List ℕ)) →
+    ((reply : Outcome) (bytes : List ℕ) → Evaluated Reports None text reply bytes →
+    Writes reply bytes o taken taken') → WritesReport Reports text o taken taken'
+report_written Reports text o taken taken' writes text_settles reply bytes reported =
+    writes reply bytes (settled_evaluated Reports None text text_settles reply bytes reported)
 
 -- ---- without loops
 

@@ -3,7 +3,6 @@ use Rattle.std.proofs.Common.{◌≡◌, ◌⊎◌, inl, inr, ℕ, Bool, true, f
 use Rattle.std.specs.Prelude.{◌==◌}
 use Rattle.scald_base.specs.Device.{Rose}
 use Rattle.program_call.specs.Program.{replied}
-use Rattle.drawing_tree.specs.Tree.{Drawing}
 use Rattle.drawing_tree.specs.Canonical.{canonical}
 use Rattle.design_gen.specs.Datapath.{datapath}
 use Rattle.fixpoint_engine.specs.Reach.{reach}
@@ -14,13 +13,13 @@ use Rattle.scald_base.specs.declared.outcome.Outcome.{Outcome}
 use Rattle.scald_base.specs.declared.outcome.Outcome.TheVariants.{Clean, Faulty, Done, NoMemory}
 use Rattle.scald_tool.specs.declared.words.Command.{Command}
 use Rattle.timing_analysis.specs.Case.{fault_count}
-use Rattle.program_call.specs.Answer as evaluation
-use Rattle.program_call.specs.Answer.{Evaluated, Reporting, is_finished, verdict_of}
+use Rattle.program_call.specs.Answer.{is_finished, verdict_of}
+use Rattle.program_call.proofs.Outcomes.{settled_evaluated}
 use Rattle.scald_tool.specs.Answer as answer
 use Rattle.scald_tool.specs.Answer.{Measured, Replied, Reported}
 use Rattle.scald_tool.specs.Promise.{IsAnswered}
 use Rattle.scald_tool.specs.Report.{report}
-use Rattle.scald_tool.specs.Finished.{TextSettles, Passes, formatted, upgraded, verified, benched}
+use Rattle.scald_tool.specs.Finished.{Passes, formatted, upgraded, verified, benched}
 use Rattle.scald_tool.specs.Finished.{IsFinished, AsksWell}
 
 verdict_finished : (n : ℕ) → is_finished (verdict_of n) ≡ true
@@ -37,21 +36,13 @@ pub record Finishes (command : Command) (text : List ℕ) : Type 0 where
   pub is : Replied command text outcome bytes
   pub finished : is_finished outcome ≡ true
 
-settled_is_evaluated : (Reports : Drawing → Reporting) (rounds : Option ℕ) (text : List ℕ)
-    (settles : TextSettles rounds text) (o : Outcome)
-    (bytes : List ℕ) → Reports settles.drawn.drawing settles.circuit settles.base settles.cases o bytes →
-    Evaluated Reports rounds text o bytes
-settled_is_evaluated Reports rounds text settles o bytes is =
-    evaluation.judged settles.circuit settles.values o bytes settles.drawn
-    (evaluation.settled settles.base settles.cases o bytes settles.settles settles.are_settled is)
-
 finishes : (text : List ℕ) (command : Command) → Passes text command → Finishes command text
 finishes text _ (formatted d draws) = record { outcome = Done; bytes = canonical d; is = answer.drawn d draws; finished = refl }
 finishes text _ (upgraded d draws) = record { outcome = Done; bytes = upgraded_text d; is = answer.readable d draws; finished = refl }
 finishes text _ (verified mode rounds settles) = record {
   outcome = verdict_of (fault_count settles.circuit settles.cases);
   bytes = report mode settles.drawn.drawing.version settles.circuit settles.base settles.cases;
-  is = settled_is_evaluated (λ d. Reported mode d.version) rounds text settles _ _
+  is = settled_evaluated (λ d. Reported mode d.version) rounds text settles _ _
       (record { outcome = refl; text = refl });
   finished = verdict_finished (fault_count settles.circuit settles.cases);
 }
@@ -59,7 +50,7 @@ finishes text _ (benched sections settles) = record {
   outcome = Done;
   bytes = summary_line settles.circuit sections settles.base (tick (reach settles.circuit) settles.base 0)
       (fault_count settles.circuit settles.cases);
-  is = settled_is_evaluated (λ d. Measured sections) None (datapath sections) settles _ _
+  is = settled_evaluated (λ d. Measured sections) None (datapath sections) settles _ _
       (record { outcome = refl; text = refl });
   finished = refl;
 }

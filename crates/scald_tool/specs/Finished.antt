@@ -2,32 +2,16 @@
 use Rattle.std.specs.Prelude.{◌≡◌, ℕ, ◌≤◌, true, List, length, Option, None, Ok}
 use Rattle.drawing_tree.specs.Tree.{Drawing}
 use Rattle.drawing_grammar.specs.CanonicalDraws.{TextDraws}
-use Rattle.flat_circuit.specs.declared.case.CaseValue.{CaseValue}
-use Rattle.flat_circuit.specs.Circuit.{Circuit}
-use Rattle.fixpoint_engine.specs.Rounds.{SettlesAt}
-use Rattle.case_analysis.specs.Base.{base_round}
 use Rattle.design_gen.specs.Datapath.{datapath}
 use Rattle.listing.specs.declared.case.Mode.{Mode}
 use Rattle.scald_base.specs.declared.outcome.Outcome.{Outcome}
 use Rattle.scald_tool.specs.declared.words.Command.{Command}
 use Rattle.scald_tool.specs.declared.words.Command.TheVariants.{Verify, Format, Upgrade, Bench}
 use Rattle.scald_tool.specs.Words.{command_of, reads}
-use Rattle.timing_analysis.specs.Drawn.{DrawsCircuit}
-use Rattle.timing_analysis.specs.Case.{Case, AreSettled, listed_cases}
-use Rattle.program_call.specs.Answer.{is_finished, limit_for}
+use Rattle.program_call.specs.Answer.{is_finished}
+use Rattle.program_call.specs.Promise.{TextSettles}
 use Rattle.scald_tool.specs.Answer.{most_bytes}
 use Rattle.scald_tool.specs.Promise.{IsAnswered}
-
--- The text draws a circuit, and nothing of it is refused; its base and each of its cases settle,
--- within this limit where one is given, and else within the circuit's own.
-pub record TextSettles (rounds : Option ℕ) (text : List ℕ) : Type 0 where
-  pub circuit : Circuit
-  pub values : List (List CaseValue)
-  pub drawn : DrawsCircuit text circuit values
-  pub base : ℕ
-  pub settles : SettlesAt (base_round circuit) (limit_for circuit rounds) base
-  pub cases : List Case
-  pub are_settled : AreSettled circuit (limit_for circuit rounds) base (listed_cases values) cases
 
 -- The text passes every stage of a form: for `format` and `upgrade` it draws a drawing, for
 -- `verify` it settles, and for `bench` the generated drawing does, whatever the text is.

@@ -1,13 +1,14 @@
-use Rattle.program_call.specs.Promise.{may_count}
+use Rattle.program_call.specs.Promise.{WritesReport, may_count}
+use Rattle.program_call.proofs.Outcomes.{report_written}
 use Rattle.program_call.proofs.Promised.{finished, given_by, settles}
-use Rattle.drawing_notes.specs.Answer.{Noted, own_word}
-use Rattle.drawing_notes.specs.Promise.{WritesNotes}
-use Rattle.drawing_notes.proofs.Promised.{is_given, is_settled, is_written}
+use Rattle.drawing_notes.specs.Answer.{Noted, notes_of, own_word}
+use Rattle.drawing_notes.proofs.Promised.{is_given, is_settled}
 use Rattle.drawing_notes.proofs.program.notes_main.Goals as goal
 
 pub returns-clause-finished : goal.returns-clause-finished
 returns-clause-finished g c =
-    finished own_word Noted (λ text. WritesNotes text _ _ _) c.args.words.now _ _ _ _ _ _ (λ text writes. is_written text _ _ _ writes) c.main_call.ensures.whole
+    finished own_word Noted (λ text. WritesReport notes_of text _ _ _) c.args.words.now _ _ _ _ _ _
+    (λ text writes. report_written notes_of text _ _ _ writes) c.main_call.ensures.whole
 
 pub returns-clause-given : goal.returns-clause-given
 returns-clause-given g c spoken = given_by own_word Noted may_count is_given c.args.words.now _ _ _ _ _ (c.main_call.ensures.replied spoken)
