@@ -1,5 +1,5 @@
--- The drawing of a datapath of n sections: registers of 8 bits on one clock, each after logic that the
--- register before it drives, and a checker at each register's data.
+-- The drawing of a datapath of n sections: registers of 8 bits on one clock, each after logic that
+-- the register before it drives, and a checker at each register's data.
 use Rattle.std.specs.Prelude.{ℕ, ◌-◌, List, [], ◌∷◌, ◌++◌, ◌==◌, codes, decimal, map, if◌then◌else◌}
 use Rattle.std.specs.List.{concat, range_with_len}
 use Rattle.design_gen.specs.Text.{line}

@@ -1,7 +1,7 @@
 //! The drawing, line by line.
 //!
-//! The one error of each function is that memory ran out, and then a part of its lines may stand at the
-//! end of the bytes.
+//! The one error of each function is that memory ran out, and then a part of its lines may stand at
+//! the end of the bytes.
 
 ghost use Rattle.std.specs.Prelude.{◌≡◌, ◌≤◌, ◌++◌, IfOk, OnOk};
 ghost use Rattle.design_gen.specs.Datapath.{assertion, change_line, checker_line, datapath, head, register_line, section};
@@ -94,8 +94,8 @@ fn add_section(out: &mut Bytes, i: u16) -> Result<(), NoMemory>
     add_register(out, i)
 }
 
-/// The drawing of `n` registers of 8 bits in a chain, with logic before each and a checker at its data:
-/// 224 bytes for one register, and 35,393 for 200. The one error is that memory ran out.
+/// The drawing of `n` registers of 8 bits in a chain, with logic before each and a checker at its
+/// data: 224 bytes for one register, and 35,393 for 200. The one error is that memory ran out.
 #[tactic(auto, unfolding(crate::specs::Datapath::datapath))]
 pub fn generate(alloc: Global, n: u16) -> Result<Bytes, NoMemory>
     ensures { IfOk result (λ text. text ≡ datapath n) }

@@ -26,8 +26,8 @@ fn add_piece(out: &mut Bytes, piece: &Piece) -> Result<(), NoMemory>
     }
 }
 
-/// Puts a line of pieces at the end. The error is that memory ran out, and then a part of the line may
-/// stand there.
+/// Puts a line of pieces at the end. The error is that memory ran out, and then a part of the line
+/// may stand there.
 pub fn add_line(out: &mut Bytes, pieces: &[Piece]) -> Result<(), NoMemory>
     ensures { OnOk result (out.new ≡ out.old ++ line (map piece_text pieces.now)) }
 {

@@ -27,7 +27,9 @@ at_pin c arrival None = None
 at_pin c arrival (Some net) = option_map (behind_wire c net) (arrival net)
 
 abbrev pub latest_at : Circuit → (ℕ → Option Arrival) → List Pin → Option Arrival
-latest_at c arrival pins = fold (λ (so_far : Option Arrival) (p : Pin). later so_far (at_pin c arrival (target_net p.target))) None pins
+latest_at c arrival pins =
+    fold (λ (so_far : Option Arrival) (p : Pin).
+    later so_far (at_pin c arrival (target_net p.target))) None pins
 
 abbrev pub delayed : ℕ → Arrival → Arrival
 delayed ticks a = record { ticks = a.ticks + ticks; storage = a.storage }
@@ -43,11 +45,13 @@ made_by c arrival None j = None
 
 -- a net of a loop has none
 abbrev pub made_at : Circuit → (ℕ → Bool) → (ℕ → Option Arrival) → ℕ → Option Arrival
-made_at c looped arrival net = if looped net then None else made_by c arrival (driver_at c.nets net) (driver c net)
+made_at c looped arrival net =
+    if looped net then None else made_by c arrival (driver_at c.nets net) (driver c net)
 
 -- each adds a delay and a wire at most to those before it
 abbrev pub AreSmall : ℕ → List (Option Arrival) → Type 0
-AreSmall steps arrivals = (net : ℕ) → IfSome (arrival_at arrivals net) (λ a. a.ticks ≤ 131070 * steps)
+AreSmall steps arrivals = (net : ℕ) →
+    IfSome (arrival_at arrivals net) (λ a. a.ticks ≤ 131070 * steps)
 
 -- a wire after so many steps at most
 abbrev pub IsBehind : ℕ → Option Arrival → Type 0

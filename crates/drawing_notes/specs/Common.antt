@@ -32,7 +32,8 @@ pub record AreRaised (waves : List (Wave Value)) (old new : List ℕ) : Type 0 w
 
 unfoldable pub common_line : Circuit → ℕ → ℕ → ℕ → List ℕ
 common_line c k clock ticks = line (
-    codes "NOTE COMMON " ∷ instance_text c k ∷ codes " " ∷ net_text c clock ∷ codes " TICKS " ∷ decimal ticks ∷ [])
+    codes "NOTE COMMON " ∷ instance_text c k ∷ codes " " ∷ net_text c clock ∷ codes " TICKS "
+    ∷ decimal ticks ∷ [])
 
 -- a clock and an input, each on a net or on none
 abbrev pub common_on : Circuit → (ℕ → ℕ → Bool) → (ℕ → ℕ) → ℕ → Option ℕ → Option ℕ → List (List ℕ)
@@ -53,6 +54,8 @@ common_of c launched skew k (Some j) =
 abbrev pub common_at : Circuit → (ℕ → ℕ → Bool) → (ℕ → ℕ) → ℕ → List (List ℕ)
 common_at c launched skew k = common_of c launched skew k (slice_get c.instances k)
 
--- in the order of expansion, by which clocks launch what comes at each net, and by the skew of each net
+-- in the order of expansion, by which clocks launch what comes at each net, and by the skew of each
+-- net
 abbrev pub common : Circuit → (ℕ → ℕ → Bool) → (ℕ → ℕ) → List (List ℕ)
-common c launched skew = flat_map (common_at c launched skew) (range_with_len 0 (length c.instances))
+common c launched skew =
+    flat_map (common_at c launched skew) (range_with_len 0 (length c.instances))

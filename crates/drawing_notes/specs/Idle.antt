@@ -11,8 +11,8 @@ use Rattle.flat_circuit.specs.declared.limits.Limits.{Limits}
 use Rattle.listing.specs.Text.{line}
 use Rattle.listing.specs.Names.{instance_text}
 
--- Setup and hold about a rise have no tick in their window; between a rise and the next fall there is
--- always a tick. Every pulse is one tick wide at least.
+-- Setup and hold about a rise have no tick in their window; between a rise and the next fall there
+-- is always a tick. Every pulse is one tick wide at least.
 abbrev pub asks_nothing : Option Check → Limits → Bool
 asks_nothing None limits = false
 asks_nothing (Some AboutRise) limits = (setup_of limits == 0) && (hold_of limits == 0)

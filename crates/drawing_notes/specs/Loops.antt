@@ -22,7 +22,8 @@ is_first together before i = is_looped together i && not (list_any (together i) 
 abbrev pub loop_at : Circuit → (ℕ → ℕ → Bool) → ℕ → List (List ℕ)
 loop_at c together place =
     let i = net_at c.order place in
-    if is_first together (take place c.order) i then loop_line c i (loop_size c together i) ∷ [] else []
+    if is_first together (take place c.order) i then loop_line c i (loop_size c together i)
+    ∷ [] else []
 
 -- each by the first of its nets, in the order of names
 abbrev pub loops : Circuit → (ℕ → ℕ → Bool) → List (List ℕ)

@@ -23,7 +23,8 @@ Leads c from net = leads c from net ≡ true
 
 -- ---- loops
 
--- Each of the two nets is reached from the other; a net and itself, where it is reached from itself.
+-- Each of the two nets is reached from the other; a net and itself, where it is reached from
+-- itself.
 pub record AreTogether (c : Circuit) (i j : ℕ) : Type 0 where
   pub there : Reaches (Leads c) i j
   pub back : Reaches (Leads c) j i
@@ -46,13 +47,17 @@ abbrev pub is_kept : Option Instance → Bool
 is_kept None = false
 is_kept (Some j) = is_storage j.kind
 
--- A change at the clock of storage reaches a net after so many ticks at most along a path: the storage's greatest delay,
--- and the greatest of each wire, gate and change function. The path passes no net of a loop.
+-- A change at the clock of storage reaches a net after so many ticks at most along a path: the
+-- storage's greatest delay, and the greatest of each wire, gate and change function. The path
+-- passes no net of a loop.
 pub data Launches (c : Circuit) (looped : ℕ → Bool) (storage : ℕ) : ℕ → ℕ → Type 0 where
-  Stored : {net : ℕ} → driver_at c.nets net ≡ Some storage → is_kept (driver c net) ≡ true → looped net ≡ false →
+  Stored : {net : ℕ} → driver_at c.nets net ≡ Some storage → is_kept (driver c net) ≡ true →
+      looped net ≡ false →
       Launches c looped storage net (greatest_delay (driver c net))
-  Passed : {from net ticks : ℕ} → Launches c looped storage from ticks → Leads c from net → looped net ≡ false →
-      Launches c looped storage net (ticks + (wire_at c.nets from).max + greatest_delay (driver c net))
+  Passed : {from net ticks : ℕ} → Launches c looped storage from ticks → Leads c from net →
+      looped net ≡ false →
+      Launches c looped storage net (ticks + (wire_at c.nets from).max
+      + greatest_delay (driver c net))
 
 -- No path is longer, and none that is as long begins at earlier storage.
 pub record IsLatest (c : Circuit) (looped : ℕ → Bool) (net : ℕ) (a : Arrival) : Type 0 where
@@ -80,11 +85,13 @@ pub record IsLaunchedBy (c : Circuit) (looped : ℕ → Bool) (clock net : ℕ) 
   pub leads : Launches c looped storage net ticks
 
 abbrev pub TellsLaunches : Circuit → (ℕ → Bool) → (ℕ → ℕ → Bool) → Type 0
-TellsLaunches c looped launched = (clock net : ℕ) → (launched clock net ≡ true) ↔ IsLaunchedBy c looped clock net
+TellsLaunches c looped launched =
+    (clock net : ℕ) → (launched clock net ≡ true) ↔ IsLaunchedBy c looped clock net
 
 -- ---- all of it
 
--- which nets are on one loop, when storage is heard at each net, and which clocks launch what reaches it
+-- which nets are on one loop, when storage is heard at each net, and which clocks launch what
+-- reaches it
 pub record Ways : Type 0 where
   pub together : ℕ → ℕ → Bool
   pub arrival : ℕ → Option Arrival

@@ -25,12 +25,14 @@ use Rattle.drawing_notes.specs.Common.{common, greatest_skew}
 
 -- on instances, nets and names, each by itself
 abbrev pub single_notes : List Spread → Circuit → List Case → List (List ℕ)
-single_notes spreads c cases = unclocked c cases ++ (idle c ++ (unchecked c ++ (unread c ++ spread c spreads)))
+single_notes spreads c cases =
+    unclocked c cases ++ (idle c ++ (unchecked c ++ (unread c ++ spread c spreads)))
 
 -- on paths, by what leads to what in the circuit, and on what they meet with in waves
 abbrev pub path_notes : Ways → Circuit → List Case → List (List ℕ)
 path_notes ways c cases =
-    late c ways.arrival ++ (loops c ways.together ++ (unknown c cases ++ common c ways.launched (greatest_skew cases)))
+    late c ways.arrival ++ (loops c ways.together
+    ++ (unknown c cases ++ common c ways.launched (greatest_skew cases)))
 
 -- kind by kind
 abbrev pub notes : Ways → List Spread → Circuit → List Case → List (List ℕ)
@@ -38,7 +40,8 @@ notes ways spreads c cases = single_notes spreads c cases ++ path_notes ways c c
 
 -- the last line: how many notes there are, or that there is none
 unfoldable pub count_line : ℕ → List ℕ
-count_line total = if total == 0 then line (codes "CLEAN" ∷ []) else line (codes "NOTES " ∷ decimal total ∷ [])
+count_line total =
+    if total == 0 then line (codes "CLEAN" ∷ []) else line (codes "NOTES " ∷ decimal total ∷ [])
 
 -- the version and the period, the notes, and their count
 abbrev pub note_lines : ℕ → Circuit → List (List ℕ) → List ℕ

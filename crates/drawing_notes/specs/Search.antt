@@ -11,7 +11,8 @@ use Rattle.drawing_notes.specs.Pins.{passes, is_storage, clock_of, pin_net, is_n
 -- The nets at the start, and each other net of a set to which a step leads from one of these.
 pub data Over (step : ℕ → ℕ → Bool) (within start : ℕ → Bool) : ℕ → Type 0 where
   At_start : {i : ℕ} → start i ≡ true → Over step within start i
-  By_step : {from i : ℕ} → Over step within start from → step from i ≡ true → within i ≡ true → Over step within start i
+  By_step : {from i : ℕ} → Over step within start from → step from i ≡ true → within i ≡ true →
+      Over step within start i
 
 -- exactly those nets were found
 abbrev pub IsFound : (ℕ → ℕ → Bool) → (ℕ → Bool) → (ℕ → Bool) → (ℕ → Bool) → Type 0

@@ -17,7 +17,8 @@ has_other_bits c name = list_any (is_other_bit name) c.nets
 
 unfoldable pub spread_line : Spread → List ℕ
 spread_line s = line (
-    codes "NOTE SPREAD " ∷ decimal s.place.line ∷ codes ":" ∷ decimal s.place.col ∷ codes " " ∷ s.name
+    codes "NOTE SPREAD " ∷ decimal s.place.line ∷ codes ":" ∷ decimal s.place.col ∷ codes " "
+    ∷ s.name
     ∷ codes " WIDTH " ∷ decimal s.width ∷ [])
 
 abbrev pub spread_at : Circuit → Spread → List (List ℕ)

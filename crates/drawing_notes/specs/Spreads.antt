@@ -1,5 +1,5 @@
--- The names that are spread where a drawing is expanded: a connection that is a name alone, without a
--- range and on no formal, means bit 0 of that name, which is taken for all bits of its place.
+-- The names that are spread where a drawing is expanded: a connection that is a name alone, without
+-- a range and on no formal, means bit 0 of that name, which is taken for all bits of its place.
 use Rattle.std.specs.Prelude.{ℕ, zero, suc, List, [], ◌∷◌, ◌++◌, length, map, nat_lt, if◌then◌else◌, Option, Some, None, Ok, Err, ℤ}
 use Rattle.std.specs.List.{flat_map, zip}
 use Rattle.scald_base.specs.declared.refusal.Place.{Place}
@@ -142,7 +142,7 @@ spreads_with d (Gives consts s) =
     in_statements setting (spreading_at setting deepest) d.body (top consts)
 spreads_with d (Fails kind place) = []
 
--- In the order of expansion, and in one use in the order of its inputs. Where the drawing is refused,
--- what is not reached has none.
+-- In the order of expansion, and in one use in the order of its inputs. Where the drawing is
+-- refused, what is not reached has none.
 unfoldable pub spreads : Drawing → List Spread
 spreads d = spreads_with d (const_values [] d.consts d.const_places (nothing_yet d.header))

@@ -1,5 +1,6 @@
--- UNCHECKED: inputs of registers and latches that no checker of setup and hold sees with their own clock. A register is
--- seen with the edge that clocks it. A latch is seen with either edge of its enable: by the one it opens, by the other it closes.
+-- UNCHECKED: inputs of registers and latches that no checker of setup and hold sees with their own
+-- clock. A register is seen with the edge that clocks it. A latch is seen with either edge of its
+-- enable: by the one it opens, by the other it closes.
 use Rattle.std.specs.Prelude.{◌≡◌, ℕ, ◌==◌, Bool, false, not, ◌&&◌, ◌||◌, List, [], ◌∷◌, length, codes, slice_get, if◌then◌else◌, Option, Some, None}
 use mathlib.Core.Bool.{beq}
 use Rattle.std.specs.List.{flat_map, list_any, range_with_len}
@@ -14,7 +15,8 @@ use Rattle.drawing_notes.specs.Pins.{is_storage, is_latch, clock_of, input_of, p
 
 -- a clock, complemented or not as the pin is, and an input, where both are on nets
 abbrev pub sampling_by : Option ℕ → Bool → Option ℕ → Option Sampling
-sampling_by (Some clock) inverted (Some input) = Some (record { clock = clock; inverted = inverted; input = input })
+sampling_by (Some clock) inverted (Some input) =
+    Some (record { clock = clock; inverted = inverted; input = input })
 sampling_by (Some clock) inverted None = None
 sampling_by None inverted input = None
 
@@ -46,16 +48,19 @@ is_checked c kind None = false
 is_checked c kind (Some s) = is_seen c s || (is_latch kind && is_seen c (turned s))
 
 unfoldable pub unchecked_line : Circuit → ℕ → ℕ → List ℕ
-unchecked_line c k input = line (codes "NOTE UNCHECKED " ∷ instance_text c k ∷ codes " " ∷ net_text c input ∷ [])
+unchecked_line c k input =
+    line (codes "NOTE UNCHECKED " ∷ instance_text c k ∷ codes " " ∷ net_text c input ∷ [])
 
 -- of an instance whose input is on this net
 abbrev pub unchecked_on : Circuit → ℕ → Kind → Option Sampling → Option ℕ → List (List ℕ)
 unchecked_on c k kind s None = []
-unchecked_on c k kind s (Some input) = if is_checked c kind s then [] else unchecked_line c k input ∷ []
+unchecked_on c k kind s (Some input) =
+    if is_checked c kind s then [] else unchecked_line c k input ∷ []
 
 abbrev pub unchecked_of : Circuit → ℕ → Option Instance → List (List ℕ)
 unchecked_of c k None = []
-unchecked_of c k (Some j) = if is_storage j.kind then unchecked_on c k j.kind (sampling_of j) (pin_net (input_of j)) else []
+unchecked_of c k (Some j) =
+    if is_storage j.kind then unchecked_on c k j.kind (sampling_of j) (pin_net (input_of j)) else []
 
 abbrev pub unchecked_at : Circuit → ℕ → List (List ℕ)
 unchecked_at c k = unchecked_of c k (slice_get c.instances k)
@@ -68,7 +73,9 @@ unchecked c = flat_map (unchecked_at c) (range_with_len 0 (length c.instances))
 
 abbrev pub is_among : List Sampling → Kind → Option Sampling → Bool
 is_among seen kind None = false
-is_among seen kind (Some s) = list_any (is_same s) seen || (is_latch kind && list_any (is_same (turned s)) seen)
+is_among seen kind (Some s) =
+    list_any (is_same s) seen
+    || (is_latch kind && list_any (is_same (turned s)) seen)
 
 -- what a checker of setup and hold sees
 abbrev pub seen_by : Option Instance → Option Sampling

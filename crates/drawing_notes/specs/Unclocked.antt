@@ -1,4 +1,5 @@
--- UNCLOCKED: registers, latches and checkers of setup and hold whose clock or enable never does anything.
+-- UNCLOCKED: registers, latches and checkers of setup and hold whose clock or enable never does
+-- anything.
 use Rattle.std.specs.Prelude.{◌≡◌, ℕ, ◌<◌, Bool, true, false, not, ◌&&◌, List, [], ◌∷◌, length, codes, slice_get, if◌then◌else◌, Option, Some, None}
 use Rattle.std.specs.List.{flat_map, list_any, range_with_len}
 use Rattle.step_values.specs.declared.value.Value.{Value}
@@ -53,15 +54,19 @@ unclocked_by c k (Some p) = unclocked_line c k p ∷ []
 
 abbrev pub unclocked_of : Circuit → ℕ → Bool → Option Instance → List (List ℕ)
 unclocked_of c k acts None = []
-unclocked_of c k acts (Some j) = if has_clock j.kind && not acts then unclocked_by c k (clock_of j) else []
+unclocked_of c k acts (Some j) =
+    if has_clock j.kind && not acts then unclocked_by c k (clock_of j) else []
 
 abbrev pub unclocked_at : Circuit → List Case → ℕ → List (List ℕ)
-unclocked_at c cases k = unclocked_of c k (acts c cases (slice_get c.instances k)) (slice_get c.instances k)
+unclocked_at c cases k =
+    unclocked_of c k (acts c cases (slice_get c.instances k)) (slice_get c.instances k)
 
 -- in the order of expansion
 abbrev pub unclocked : Circuit → List Case → List (List ℕ)
 unclocked c cases = flat_map (unclocked_at c cases) (range_with_len 0 (length c.instances))
 
--- the marks of instances, by their numbers, say whether their clocks do something in some of these cases
+-- the marks of instances, by their numbers, say whether their clocks do something in some of these
+-- cases
 abbrev pub AreActs : Circuit → List Case → List Bool → Type 0
-AreActs c cases marks = (k : ℕ) → k < length c.instances → marked_in marks k ≡ acts c cases (slice_get c.instances k)
+AreActs c cases marks = (k : ℕ) → k < length c.instances →
+    marked_in marks k ≡ acts c cases (slice_get c.instances k)

@@ -14,7 +14,8 @@ has_unknown ws i = list_any is_unknown (ws i).cells
 
 unfoldable pub unknown_line : Circuit → ℕ → ℕ → ℕ → List ℕ
 unknown_line c number count first = line (
-    codes "NOTE UNKNOWN CASE " ∷ decimal number ∷ codes " NETS " ∷ decimal count ∷ codes " " ∷ net_text c first ∷ [])
+    codes "NOTE UNKNOWN CASE " ∷ decimal number ∷ codes " NETS " ∷ decimal count ∷ codes " "
+    ∷ net_text c first ∷ [])
 
 -- of the case with this number, by such nets in the order of names
 abbrev pub unknown_in : Circuit → ℕ → List ℕ → List (List ℕ)

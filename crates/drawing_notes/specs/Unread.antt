@@ -45,4 +45,5 @@ AreRead js marks = (i : ℕ) → marked_in marks i ≡ is_read js i
 -- the nets that these pins are on are marked, beside those that were
 pub record MarksPins (pins : List Pin) (old new : List Bool) : Type 0 where
   pub each_net : length new ≡ length old
-  pub marks : (i : ℕ) → marked_in new i ≡ (marked_in old i || list_any (λ (p : Pin). is_on i p.target) pins)
+  pub marks : (i : ℕ) → marked_in new i
+      ≡ (marked_in old i || list_any (λ (p : Pin). is_on i p.target) pins)

@@ -25,7 +25,8 @@ pub(crate) fn inside(
     scope: &Scope,
 ) -> Result<Option<Inside>, NoMemory>
     ensures { IfOk result (λ inside. inside
-        ≡ result_ok (inside_at consts.now (macro_of definition.now) (seen scope.now) (use_of used.now))) }
+        ≡ result_ok (inside_at consts.now (macro_of definition.now) (seen scope.now)
+        (use_of used.now))) }
 {
     let given = match given_to(alloc, definition, &scope.env, used) {
         Ok(given) => given,
@@ -41,7 +42,8 @@ pub(crate) fn inside(
 
 /// Appends formals that are bound to no bits.
 fn add_unbound(formals: &mut Row<Bound>, alloc: Global, shapes: &[Shape]) -> Result<(), NoMemory>
-    ensures { OnOk result (formals.new ≡ formals.old ++ map (λ shape. bound_ref shape []) shapes.now) }
+    ensures { OnOk result (formals.new ≡ formals.old
+        ++ map (λ shape. bound_ref shape []) shapes.now) }
 {
     for shape in shapes {
         formals.push(Bound {

@@ -91,7 +91,8 @@ impl Found {
         }
     }
 
-    /// Appends what an instance drives, where it passes on what its pins do and the net is within the set.
+    /// Appends what an instance drives, where it passes on what its pins do and the net is within
+    /// the set.
     fn add_output(&mut self, c: &Circuit, within: &NetSet, number: u32) -> Result<(), NoMemory>
         requires { length self.old.marks ≡ length c.now.nets }
         ensures { OnOk result (Extends (λ i. marked_in within.now i
@@ -114,7 +115,8 @@ impl Found {
     fn add_after(&mut self, c: &Circuit, within: &NetSet, net: u32) -> Result<(), NoMemory>
         requires each_net { length self.old.marks ≡ length c.now.nets }
         requires exists { net < length c.now.nets }
-        ensures { OnOk result (Extends (λ i. marked_in within.now i && leads c.now net i) self.old self.new) }
+        ensures { OnOk result (Extends (λ i. marked_in within.now i
+            && leads c.now net i) self.old self.new) }
     {
         c.known();
         for reader in readers_of(c, net) {
@@ -142,7 +144,8 @@ impl Found {
     /// Appends the nets within the set that lead to a net by one step.
     fn add_before(&mut self, c: &Circuit, within: &NetSet, net: u32) -> Result<(), NoMemory>
         requires each_net { length self.old.marks ≡ length c.now.nets }
-        ensures { OnOk result (Extends (λ i. marked_in within.now i && leads c.now i net) self.old self.new) }
+        ensures { OnOk result (Extends (λ i. marked_in within.now i
+            && leads c.now i net) self.old self.new) }
     {
         c.known();
         match c.driver_of(net) {
@@ -151,8 +154,8 @@ impl Found {
         }
     }
 
-    /// Appends all nets to which the found ones lead over nets within the set. It costs what the readers
-    /// of these nets cost.
+    /// Appends all nets to which the found ones lead over nets within the set. It costs what the
+    /// readers of these nets cost.
     pub fn follow(&mut self, c: &Circuit, within: &NetSet) -> Result<(), NoMemory>
         requires each_net { length self.old.marks ≡ length c.now.nets }
         ensures each_net { OnOk result (length self.new.marks ≡ length c.now.nets) }
@@ -168,8 +171,8 @@ impl Found {
         Ok(())
     }
 
-    /// Appends all nets that lead to the found ones over nets within the set. It costs what the pins of the
-    /// drivers of these nets cost.
+    /// Appends all nets that lead to the found ones over nets within the set. It costs what the
+    /// pins of the drivers of these nets cost.
     pub fn trace(&mut self, c: &Circuit, within: &NetSet) -> Result<(), NoMemory>
         requires each_net { length self.old.marks ≡ length c.now.nets }
         ensures each_net { OnOk result (length self.new.marks ≡ length c.now.nets) }

@@ -58,7 +58,8 @@ fn add_late_at(
     number: u32,
 ) -> Result<(), NoMemory>
     requires { AreSmall (2 ^ 32) arrivals.now }
-    ensures { OnOk result (Adds notes.old notes.new (late_at c.now (arrival_at arrivals.now) number)) }
+    ensures { OnOk result (Adds notes.old notes.new
+        (late_at c.now (arrival_at arrivals.now) number)) }
 {
     let Some(instance) = c.instance(number) else {
         return Ok(());
@@ -72,8 +73,8 @@ fn add_late_at(
     Ok(())
 }
 
-/// The notes on pins of storage and of checkers that what storage launches reaches after more than a period,
-/// in the order of expansion.
+/// The notes on pins of storage and of checkers that what storage launches reaches after more than
+/// a period, in the order of expansion.
 pub fn add_late(
     notes: &mut Notes,
     c: &Circuit,

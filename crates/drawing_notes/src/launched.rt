@@ -114,7 +114,8 @@ fn made_at(
     steps: u32,
 ) -> Option<Arrival>
     requires { AreSmall steps arrivals.now }
-    ensures is { result ≡ made_at c.now (is_looped (together parts.now)) (arrival_at arrivals.now) net }
+    ensures is { result ≡ made_at c.now (is_looped (together parts.now))
+        (arrival_at arrivals.now) net }
     ensures small { IfSome result (λ a. a.ticks ≤ 131070 * (steps + 1)) }
 {
     if part_at(parts, net).is_some() {
@@ -158,7 +159,8 @@ fn open_nets(alloc: Global, parts: &[Part], pins: &[Pin]) -> Result<Vec<usize>, 
 
 /// The nets of no loop that lead to a net of no loop.
 fn feeders(alloc: Global, c: &Circuit, parts: &[Part], net: u32) -> Result<Vec<usize>, NoMemory>
-    ensures { IfOk result (λ nets. nets.items ≡ feeders_in c.now (is_looped (together parts.now)) net) }
+    ensures { IfOk result (λ nets. nets.items
+        ≡ feeders_in c.now (is_looped (together parts.now)) net) }
 {
     if part_at(parts, net).is_some() {
         return Ok(Vec::new(alloc));
@@ -172,7 +174,8 @@ fn feeders(alloc: Global, c: &Circuit, parts: &[Part], net: u32) -> Result<Vec<u
 /// The nets, each with those of no loop that lead to it.
 fn nodes(alloc: Global, c: &Circuit, parts: &[Part]) -> Result<Vec<Node>, NoMemory>
     ensures { IfOk result (λ nodes. map node_feeders nodes.items
-        ≡ map (feeders_in c.now (is_looped (together parts.now))) (range_with_len 0 (length c.now.nets))) }
+        ≡ map (feeders_in c.now (is_looped (together parts.now)))
+        (range_with_len 0 (length c.now.nets))) }
 {
     let mut nodes = Vec::new(alloc);
     for net in 0..c.net_count() {
@@ -191,8 +194,8 @@ fn no_arrivals(alloc: Global, nets: u32) -> Result<Arrivals, NoMemory>
     Ok(arrivals)
 }
 
-/// When what storage launches comes at each net at the latest, over paths that pass no net of a loop. Each
-/// pin is looked at twice.
+/// When what storage launches comes at each net at the latest, over paths that pass no net of a
+/// loop. Each pin is looked at twice.
 pub fn arrivals(alloc: Global, c: &Circuit, parts: &[Part]) -> Result<Arrivals, NoMemory>
     requires { TellsLoops c.now (together parts.now) }
     ensures are { IfOk result (λ arrivals.

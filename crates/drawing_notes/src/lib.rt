@@ -2,14 +2,15 @@
 //! checks, paths that take longer than a period, and what the settled waves do not know.
 //!
 //! The program calls [`notes_main`], the main call of `program_call` for [`NotesProgram`].
-//! `specs/Report` says which notes there are and in which order, and `specs/Answer` what is answered
-//! to a text. Each kind of note has a file of `specs/` that says which notes of it there are, in the
-//! words of its line, and a call that appends exactly its lines to [`Notes`] and counts them.
+//! `specs/Report` says which notes there are and in which order, and `specs/Answer` what is
+//! answered to a text. Each kind of note has a file of `specs/` that says which notes of it there
+//! are, in the words of its line, and a call that appends exactly its lines to [`Notes`] and counts
+//! them.
 //!
-//! `specs/Paths` says which net leads to which: [`parts`] finds the loops, and [`arrivals`] when what
-//! storage launches comes at the latest. [`SoFar`] gathers what the cases tell, one after another.
-//! [`spreads`] goes down the statements as the expansion does, and finds the names that are spread
-//! (`specs/Spreads`, `specs/Widths`).
+//! `specs/Paths` says which net leads to which: [`parts`] finds the loops, and [`arrivals`] when
+//! what storage launches comes at the latest. [`SoFar`] gathers what the cases tell, one after
+//! another. [`spreads`] goes down the statements as the expansion does, and finds the names that
+//! are spread (`specs/Spreads`, `specs/Widths`).
 #![tactic(auto)]
 
 // lines, and the pins that they are about

@@ -39,7 +39,8 @@ fn sizes(alloc: Global, parts: &[Part]) -> Result<Vec<u32>, NoMemory>
     Ok(sizes)
 }
 
-/// The notes on loops through gates and change functions, each by the first of its nets, in name order.
+/// The notes on loops through gates and change functions, each by the first of its nets, in name
+/// order.
 #[tactic(auto, unfolding(crate::specs::Loops::loop_line))]
 pub fn add_loops(
     notes: &mut Notes,

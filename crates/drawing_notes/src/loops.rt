@@ -14,7 +14,8 @@ use flat_circuit::Circuit;
 use scald_base::NoMemory;
 use std::alloc::Global;
 
-/// A net of the loop that a net is on, the same for all of its nets; `None` where the net is on no loop.
+/// A net of the loop that a net is on, the same for all of its nets; `None` where the net is on no
+/// loop.
 pub type Part = Option<u32>;
 
 /// All nets.
@@ -43,8 +44,10 @@ fn settle(fresh: &mut NetSet, parts: &mut [Part], nets: &[u32], part: Part)
     requires parts { All (λ net. net < length parts.old) nets.now }
     ensures each_net { length fresh.new ≡ length fresh.old }
     ensures each_part { length parts.new ≡ length parts.old }
-    ensures settled { (i : ℕ) → marked_in fresh.new i ≡ (marked_in fresh.old i && not (among nets.now i)) }
-    ensures given { (i : ℕ) → part_at parts.new i ≡ (if among nets.now i then part else part_at parts.old i) }
+    ensures settled { (i : ℕ) → marked_in fresh.new i
+        ≡ (marked_in fresh.old i && not (among nets.now i)) }
+    ensures given { (i : ℕ) → part_at parts.new i
+        ≡ (if among nets.now i then part else part_at parts.old i) }
 {
     for net in nets {
         fresh.remove(*net);
@@ -52,8 +55,8 @@ fn settle(fresh: &mut NetSet, parts: &mut [Part], nets: &[u32], part: Part)
     }
 }
 
-/// What the search for one loop after the other needs: the nets that are reached from one net, and those
-/// of them that also lead back to it. Both are empty between two searches.
+/// What the search for one loop after the other needs: the nets that are reached from one net, and
+/// those of them that also lead back to it. Both are empty between two searches.
 #[derive(Drop)]
 struct Search {
     reached: Found,
@@ -74,7 +77,8 @@ fn know(
     requires shared { search.old.shared.marks ≡ replicate (length c.now.nets) false }
     ensures partly { OnOk result (ArePartly c.now fresh.new parts.new) }
     ensures root { OnOk result (marked_in fresh.new root ≡ false) }
-    ensures stays { OnOk result ((i : ℕ) → marked_in fresh.old i ≡ false → marked_in fresh.new i ≡ false) }
+    ensures stays { OnOk result ((i : ℕ) → marked_in fresh.old i ≡ false →
+        marked_in fresh.new i ≡ false) }
     ensures reached { OnOk result (search.new.reached.marks ≡ replicate (length c.now.nets) false) }
     ensures shared { OnOk result (search.new.shared.marks ≡ replicate (length c.now.nets) false) }
 {
@@ -96,8 +100,8 @@ fn know(
     Ok(())
 }
 
-/// The part of each net: two nets have one part exactly where each of them leads to the other through gates
-/// and change functions, and a net has one exactly where it leads to itself.
+/// The part of each net: two nets have one part exactly where each of them leads to the other
+/// through gates and change functions, and a net has one exactly where it leads to itself.
 pub fn parts(alloc: Global, c: &Circuit) -> Result<Vec<Part>, NoMemory>
     ensures each_net { IfOk result (λ parts. length parts.items ≡ length c.now.nets) }
     ensures inside { IfOk result (λ parts. AreInside (length c.now.nets) parts.items) }

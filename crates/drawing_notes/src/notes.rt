@@ -64,7 +64,8 @@ impl Notes {
     /// The notes of others, after these.
     pub fn append(&mut self, others: &Notes) -> Result<(), NoMemory>
         ensures { OnOk result ((lines : List (List ℕ)) →
-            Adds (record { bytes = []; count = 0 }) others.now lines → Adds self.old self.new lines) }
+            Adds (record { bytes = []; count = 0 }) others.now lines →
+            Adds self.old self.new lines) }
     {
         let before = self.count;
         self.bytes.extend(others.bytes.as_slice())?;

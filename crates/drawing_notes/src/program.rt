@@ -36,12 +36,13 @@ impl Replier for NotesProgram {
     fn laws() {}
 }
 
-/// Reads a drawing and writes what it does not say: a line for each note, kind by kind, and how many there
-/// are. Its name alone asks for it.
+/// Reads a drawing and writes what it does not say: a line for each note, kind by kind, and how
+/// many there are. Its name alone asks for it.
 ///
-/// `Clean` comes where the drawing is accepted, its waves settle and there is no note, and `Faulty` with the
-/// number of notes where there are some. Why a drawing is refused, or which net does not settle, is written as
-/// `verify` has it. All of the answer is made before the first byte of it is written.
+/// `Clean` comes where the drawing is accepted, its waves settle and there is no note, and `Faulty`
+/// with the number of notes where there are some. Why a drawing is refused, or which net does not
+/// settle, is written as `verify` has it. All of the answer is made before the first byte of it is
+/// written.
 pub fn notes_main<S: Source, K: Sink>(
     alloc: Global,
     words: &Words,
@@ -52,7 +53,8 @@ pub fn notes_main<S: Source, K: Sink>(
     ensures call { IsCall notes_program nothing_more words.now result
         (devices S.left S.faults K.taken K.faults) source.old source.new sink.old sink.new }
 
-    // If the source tells its bytes and no device fails, a text whose circuit and cases settle gets its notes.
+    // If the source tells its bytes and no device fails, a text whose circuit and cases settle gets
+    // its notes.
     ensures finished { IfSome (S.left source.old) (λ text. asks notes_program words.now ≡ true →
         length text ≤ most_bytes → ¬ Rose (S.faults source.old) (S.faults source.new) →
         ¬ Rose (K.faults sink.old) (K.faults sink.new) →

@@ -53,7 +53,8 @@ fn add_single(
     Ok(())
 }
 
-/// The notes on paths between nets, by the loops of the circuit, and on what they meet with in waves.
+/// The notes on paths between nets, by the loops of the circuit, and on what they meet with in
+/// waves.
 fn add_paths(
     notes: &mut Notes,
     alloc: Global,
@@ -75,8 +76,9 @@ fn add_paths(
     Ok(())
 }
 
-/// The reply with all notes on a circuit, by the names that its drawing spreads and by what its cases tell.
-/// Where memory runs out, or there are more notes than numbers of 32 bits, it is `NoMemory`.
+/// The reply with all notes on a circuit, by the names that its drawing spreads and by what its
+/// cases tell. Where memory runs out, or there are more notes than numbers of 32 bits, it is
+/// `NoMemory`.
 pub fn report(
     alloc: Global,
     c: &Circuit,
@@ -85,7 +87,8 @@ pub fn report(
     so_far: &SoFar,
 ) -> Result<Reply<Outcome>, NoMemory>
     requires { length so_far.now.acts.items ≡ length c.now.instances }
-    ensures { IfOk result (λ reply. (base : ℕ) (cases : List Case) → HoldsOf so_far.now c.now cases →
+    ensures { IfOk result (λ reply. (base : ℕ) (cases : List Case) →
+        HoldsOf so_far.now c.now cases →
         AreNotes version spreads.now c.now base cases reply.outcome reply.bytes) }
 {
     let mut bytes = Bytes::new(alloc);

@@ -70,8 +70,8 @@ fn turned(sampling: Sampling) -> Sampling
     }
 }
 
-/// Whether storage of a kind has its input among what is seen: a register with the edge that clocks it, a
-/// latch with either edge of its enable.
+/// Whether storage of a kind has its input among what is seen: a register with the edge that clocks
+/// it, a latch with either edge of its enable.
 fn is_among(seen: &IndexSet<Sampling>, kind: Kind, sampling: Option<Sampling>) -> bool
     ensures { result ≡ is_among seen.now.keys kind sampling }
 {
@@ -114,8 +114,8 @@ fn add_unchecked_at(
     Ok(())
 }
 
-/// The notes on the inputs of registers and latches that no checker of setup and hold sees with their own
-/// clock, in the order of expansion.
+/// The notes on the inputs of registers and latches that no checker of setup and hold sees with
+/// their own clock, in the order of expansion.
 pub fn add_unchecked(notes: &mut Notes, alloc: Global, c: &Circuit) -> Result<(), NoMemory>
     ensures { OnOk result (Adds notes.old notes.new (unchecked c.now)) }
 {

@@ -158,8 +158,9 @@ fn in_use(
     in_statements(found, alloc, library, &definition.body, &inner, levels - 1)
 }
 
-/// The names that are spread where a drawing is expanded, in the order of expansion. What is refused
-/// has none: a drawing is expanded first, and refused there. `NoMemory` comes where memory runs out.
+/// The names that are spread where a drawing is expanded, in the order of expansion. What is
+/// refused has none: a drawing is expanded first, and refused there. `NoMemory` comes where memory
+/// runs out.
 pub fn spreads(alloc: Global, drawing: &Drawing) -> Result<Spreads, NoMemory>
     requires { IsWellFormed (drawing_of drawing.now) }
     ensures { IfOk result (λ found. found ≡ spec_spreads (drawing_of drawing.now)) }

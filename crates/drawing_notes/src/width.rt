@@ -57,7 +57,8 @@ fn item_width(alloc: Global, scope: &Scope, item: &Item) -> Result<usize, NoMemo
 
 /// How many bits a connection has. More than can be counted have no memory either.
 fn width(alloc: Global, scope: &Scope, connection: &Conn) -> Result<usize, NoMemory>
-    ensures { IfOk result (λ bits. bits ≡ spec_width (seen scope.now) (connection_of connection.now)) }
+    ensures { IfOk result (λ bits. bits
+        ≡ spec_width (seen scope.now) (connection_of connection.now)) }
 {
     let mut bits = 0_usize;
     for term in connection.terms.as_slice() {

@@ -78,8 +78,8 @@ chain_after link None = ending link Undriven
 chain_after link (Some None) = ending link Both
 chain_after link (Some (Some rest)) = linked link rest
 
--- From a link on, where these nets stand in earlier links and at most so many nets do not. Where none
--- is left the link's net is one of them.
+-- From a link on, where these nets stand in earlier links and at most so many nets do not. Where
+-- none is left the link's net is one of them.
 abbrev pub chain_from : Circuit → Waves → ℕ → List ℕ → Link → Chain
 chain_from c ws zero seen link = ending link Repeat
 chain_from c ws (suc left) seen link =
@@ -110,8 +110,8 @@ at_net c ws i p (Some net) = Some (link_back c ws i p 0)
 abbrev pub link_at_net : Circuit → Waves → ℕ → ℕ → Option Link
 link_at_net c ws i p = at_net c ws i p (slice_get c.nets i)
 
--- the net of an assertion; the input of a checker at edges, the pin of one of pulses, and the pin that a
--- hazard names
+-- the net of an assertion; the input of a checker at edges, the pin of one of pulses, and the pin
+-- that a hazard names
 abbrev pub first_link : Circuit → Waves → Fault → Option Link
 first_link c ws (Point kind k edge slot value) = link_at_pin c ws k 1 slot
 first_link c ws (Width k high from width) = link_at_pin c ws k 0 from

@@ -37,8 +37,8 @@ fn first_link<W: CyclicWave<Item = Value>>(
     }
 }
 
-/// The links from one on that may change, in a circuit of whose nets none was met. Each net is met once;
-/// after as many links as there are nets the next one is on a net that was met.
+/// The links from one on that may change, in a circuit of whose nets none was met. Each net is met
+/// once; after as many links as there are nets the next one is on a net that was met.
 fn followed<W: CyclicWave<Item = Value>>(
     alloc: Global,
     c: &Circuit,
@@ -103,8 +103,8 @@ fn forget(met: &mut NetSet, links: &[Link])
     }
 }
 
-/// The chain of a fault in these waves. `met`, which has a place for each net, is empty before and after;
-/// `NoMemory` comes where memory runs out, and `met` is of no use then.
+/// The chain of a fault in these waves. `met`, which has a place for each net, is empty before and
+/// after; `NoMemory` comes where memory runs out, and `met` is of no use then.
 pub fn chain_of<W: CyclicWave<Item = Value>>(
     alloc: Global,
     c: &Circuit,

@@ -1,8 +1,8 @@
 //! Where the faults of a drawing come from: for each fault the chain of changes that ends in it.
 //!
-//! The program calls [`chain_main`], the main call of `program_call` for the program [`ChainProgram`].
-//! `specs/Chain` says which links a chain has and how it ends, `specs/Report` which lines there are, and
-//! `specs/Laws` what holds of every chain.
+//! The program calls [`chain_main`], the main call of `program_call` for the program
+//! [`ChainProgram`]. `specs/Chain` says which links a chain has and how it ends, `specs/Report`
+//! which lines there are, and `specs/Laws` what holds of every chain.
 #![tactic(auto)]
 
 // chains

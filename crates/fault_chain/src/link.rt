@@ -45,8 +45,8 @@ fn link_back<W: CyclicWave<Item = Value>>(
     }
 }
 
-/// The latest change of a net that may show in a slot, late by a delay within these bounds. A net that
-/// never changes is not looked at slot by slot.
+/// The latest change of a net that may show in a slot, late by a delay within these bounds. A net
+/// that never changes is not looked at slot by slot.
 fn first_back<W: CyclicWave<Item = Value>>(
     c: &Circuit,
     waves: &Waves<W>,
@@ -76,8 +76,8 @@ fn first_back<W: CyclicWave<Item = Value>>(
     None
 }
 
-/// The latest change of a pin's net that may show in a slot, late by the wire and then by a delay within
-/// these bounds. A constant has none.
+/// The latest change of a pin's net that may show in a slot, late by the wire and then by a delay
+/// within these bounds. A constant has none.
 fn through<W: CyclicWave<Item = Value>>(
     c: &Circuit,
     waves: &Waves<W>,
@@ -109,8 +109,8 @@ fn through<W: CyclicWave<Item = Value>>(
     }
 }
 
-/// The change that shows in a slot of an element's output: that of the first pin that the element listens
-/// to and that has one.
+/// The change that shows in a slot of an element's output: that of the first pin that the element
+/// listens to and that has one.
 pub fn next_link<W: CyclicWave<Item = Value>>(
     c: &Circuit,
     waves: &Waves<W>,
@@ -156,7 +156,8 @@ pub fn link_at_pin<W: CyclicWave<Item = Value>>(
     }
 }
 
-/// What a net does in a slot, whether it may change there or not; `None` where there is no such net.
+/// What a net does in a slot, whether it may change there or not; `None` where there is no such
+/// net.
 pub fn link_at_net<W: CyclicWave<Item = Value>>(
     c: &Circuit,
     waves: &Waves<W>,

@@ -39,12 +39,12 @@ impl Replier for ChainProgram {
     fn laws() {}
 }
 
-/// Reads a drawing and explains its faults: for each case each fault, and below it the chain of changes
-/// that ends in it, back to where it comes from. Its name alone asks for it.
+/// Reads a drawing and explains its faults: for each case each fault, and below it the chain of
+/// changes that ends in it, back to where it comes from. Its name alone asks for it.
 ///
-/// `Clean` and `Faulty` come as from `verify`, by the number of faults over all cases. Why a drawing is
-/// refused, or which net does not settle, is written as `verify` has it. All of the answer is made before
-/// the first byte of it is written.
+/// `Clean` and `Faulty` come as from `verify`, by the number of faults over all cases. Why a
+/// drawing is refused, or which net does not settle, is written as `verify` has it. All of the
+/// answer is made before the first byte of it is written.
 pub fn chain_main<S: Source, K: Sink>(
     alloc: Global,
     words: &Words,
@@ -55,7 +55,8 @@ pub fn chain_main<S: Source, K: Sink>(
     ensures call { IsCall chains nothing_more words.now result
         (devices S.left S.faults K.taken K.faults) source.old source.new sink.old sink.new }
 
-    // If the source tells its bytes and no device fails, a text whose circuit and cases settle gets its chains.
+    // If the source tells its bytes and no device fails, a text whose circuit and cases settle gets
+    // its chains.
     ensures finished { IfSome (S.left source.old) (λ text. asks chains words.now ≡ true →
         length text ≤ most_bytes → ¬ Rose (S.faults source.old) (S.faults source.new) →
         ¬ Rose (K.faults sink.old) (K.faults sink.new) →
@@ -66,8 +67,8 @@ pub fn chain_main<S: Source, K: Sink>(
     ensures loopless { (text : List ℕ) → AreTold chains words.now (S.left source.old) text →
         SettlesLoopless text result }
 
-    // The chain of each fault of a settled case is whole: if the delays of a circuit are in their bounds, and so
-    // in each circuit that a text draws.
+    // The chain of each fault of a settled case is whole: if the delays of a circuit are in their
+    // bounds, and so in each circuit that a text draws.
     ensures chains_whole { ChainsAreWhole }
     ensures drawn_whole { DrawnChainsAreWhole }
 {

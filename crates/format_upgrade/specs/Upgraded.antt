@@ -7,8 +7,8 @@ use Rattle.drawing_tree.specs.Tree.{Connection, UseStatement, Statement, Use, Wi
 use Rattle.drawing_tree.specs.Canonical.{canonical}
 use Rattle.macro_expander.specs.Primitives.{first_reversed}
 
--- How many of the first of so many connections are selects that stand in another order in version 2: those of a MUX4 and of
--- a MUX8. A use with another number of connections has none.
+-- How many of the first of so many connections are selects that stand in another order in version
+-- 2: those of a MUX4 and of a MUX8. A use with another number of connections has none.
 abbrev pub turned_selects : Option Kind → ℕ → ℕ
 turned_selects (Some Mux4) n = if n == 6 then 2 else 0
 turned_selects (Some Mux8) n = if n == 11 then 3 else 0
@@ -24,8 +24,10 @@ abbrev mutual
   pub turned_statement : Statement → Statement
   turned_statement (Use u) = Use (turned_use u)
   turned_statement (Wire w) = Wire w
-  turned_statement (If test taken other place) = If test (turned_statements taken) (turned_otherwise other) place
-  turned_statement (For var first last body place) = For var first last (turned_statements body) place
+  turned_statement (If test taken other place) =
+      If test (turned_statements taken) (turned_otherwise other) place
+  turned_statement (For var first last body place) =
+      For var first last (turned_statements body) place
 
   pub turned_statements : Statements → Statements
   turned_statements nil = nil

@@ -1,7 +1,7 @@
 //! Drawings of older versions of the language, carried over to the last one.
 //!
-//! The layer above calls [`upgrade`]. `specs/Upgraded` says which text that gives: the canonical text of
-//! the drawing in version 2, the selects of its multiplexers in the order that version has.
+//! The layer above calls [`upgrade`]. `specs/Upgraded` says which text that gives: the canonical
+//! text of the drawing in version 2, the selects of its multiplexers in the order that version has.
 //! `specs/Upgrade` says what the text draws: the same flat circuit and the same cases, which
 //! `specs/SameCircuit` spells out.
 #![tactic(auto)]

@@ -1,5 +1,5 @@
-//! Copies of expressions and of what holds them. The boxes of a copy lie elsewhere in memory, so what is
-//! the same is the tree: what all parts hold.
+//! Copies of expressions and of what holds them. The boxes of a copy lie elsewhere in memory, so
+//! what is the same is the tree: what all parts hold.
 
 ghost use Rattle.std.specs.Prelude.{◌≡◌, IfOk, Option, map, option_map};
 ghost use Rattle.drawing_tree.specs.Expression.{Expression, expression_of};

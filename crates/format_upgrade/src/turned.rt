@@ -72,8 +72,8 @@ fn ins(alloc: Global, order: Order, used: &UseStmt) -> Result<Conns, NoMemory>
     }
 }
 
-/// Copies of what stands before the parameters of a use. Each part of a use is copied by a function of
-/// its own, so that none owns more than half of the copies when memory runs out.
+/// Copies of what stands before the parameters of a use. Each part of a use is copied by a function
+/// of its own, so that none owns more than half of the copies when memory runs out.
 #[derive(Drop)]
 struct Front {
     label: Bytes,
@@ -158,7 +158,8 @@ pub(crate) fn statements(alloc: Global, order: Order, body: &[Stmt]) -> Result<S
 
 #[cycle(statement)]
 fn statement(alloc: Global, order: Order, one: &Stmt) -> Result<Stmt, NoMemory>
-    ensures { IfOk result (λ copy. statement_of copy ≡ in_order_statement order (statement_of one.now)) }
+    ensures { IfOk result (λ copy. statement_of copy
+        ≡ in_order_statement order (statement_of one.now)) }
 {
     match one {
         Stmt::Use(used) => Ok(Stmt::Use(use_statement(alloc, order, used)?)),

@@ -13,7 +13,8 @@ use Rattle.listing.specs.Fault.{fault_lines}
 -- its number, the rounds of the base, its own, and the tick from which on its waves hold
 unfoldable pub case_line : ℕ → ℕ → ℕ → ℕ → List ℕ
 case_line number base rounds tick = line (
-    codes "CASE " ∷ decimal number ∷ codes " BASE " ∷ decimal base ∷ codes " ROUNDS " ∷ decimal rounds ∷ codes " T " ∷ decimal tick ∷ [])
+    codes "CASE " ∷ decimal number ∷ codes " BASE " ∷ decimal base ∷ codes " ROUNDS "
+    ∷ decimal rounds ∷ codes " T " ∷ decimal tick ∷ [])
 
 abbrev pub shows_waves : Mode → Bool
 shows_waves Faults = false

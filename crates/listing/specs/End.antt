@@ -3,4 +3,5 @@ use Rattle.std.specs.Prelude.{ℕ, List, [], ◌∷◌, ◌==◌, codes, decimal
 use Rattle.listing.specs.Text.{line}
 
 unfoldable pub last_line : ℕ → List ℕ
-last_line total = if total == 0 then line (codes "CLEAN" ∷ []) else line (codes "FAULTS " ∷ decimal total ∷ [])
+last_line total =
+    if total == 0 then line (codes "CLEAN" ∷ []) else line (codes "FAULTS " ∷ decimal total ∷ [])

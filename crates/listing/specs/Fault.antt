@@ -39,7 +39,8 @@ fault_element c (Assertion net slot value) = net_text c net
 -- where it was found
 unfoldable pub fault_place : Circuit → Fault → List ℕ
 fault_place c (Point kind instance edge slot value) = concat (
-    codes "EDGE " ∷ slot_text c edge ∷ codes " SLOT " ∷ slot_text c slot ∷ codes " VALUE " ∷ (value ∷ []) ∷ [])
+    codes "EDGE " ∷ slot_text c edge ∷ codes " SLOT " ∷ slot_text c slot ∷ codes " VALUE "
+    ∷ (value ∷ []) ∷ [])
 fault_place c (Width instance high from width) = concat (
     level_text high ∷ codes " FROM " ∷ slot_text c from ∷ codes " WIDTH " ∷ decimal width ∷ [])
 fault_place c (Hazard instance slot pin) = concat (

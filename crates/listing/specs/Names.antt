@@ -1,4 +1,5 @@
--- How the report names the nets and instances of a circuit, by their numbers. What is past the last has no name.
+-- How the report names the nets and instances of a circuit, by their numbers. What is past the last
+-- has no name.
 use Rattle.std.specs.Prelude.{ℕ, List, map}
 use Rattle.flat_circuit.specs.declared.instance.Instance.{Instance}
 use Rattle.flat_circuit.specs.Name.{Name, name_at}

@@ -13,7 +13,9 @@ pub record Run : Type 0 where
 -- a slot more, in front
 abbrev pub lengthened : Value → List Run → List Run
 lengthened v [] = record { value = v; width = 1 } ∷ []
-lengthened v (r ∷ rs) = if same v r.value then record { value = v; width = suc r.width } ∷ rs else record { value = v; width = 1 } ∷ r ∷ rs
+lengthened v (r ∷ rs) =
+    if same v r.value then record { value = v; width = suc r.width } ∷ rs
+    else record { value = v; width = 1 } ∷ r ∷ rs
 
 -- the runs of the slots of a period, from slot 0 to the period's end
 abbrev pub runs : List Value → List Run
@@ -37,8 +39,8 @@ Differ [] = ⊤
 Differ (r ∷ []) = ⊤
 Differ (r ∷ q ∷ rs) = (r.value ≢ q.value) × Differ (q ∷ rs)
 
--- The runs have the slots that the list has, each run at least one, and neighbours have different values: so no run can be
--- made longer.
+-- The runs have the slots that the list has, each run at least one, and neighbours have different
+-- values: so no run can be made longer.
 pub record AreRuns (cells : List Value) (rs : List Run) : Type 0 where
   pub spell : spelled rs ≡ cells
   pub wide : All (λ (r : Run). 1 ≤ r.width) rs

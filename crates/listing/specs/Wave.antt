@@ -10,7 +10,9 @@ use Rattle.listing.specs.Run.{runs_text}
 
 -- the skew of a net's wave, and its runs
 unfoldable pub wave_line : Circuit → (ℕ → Wave Value) → ℕ → List ℕ
-wave_line c waves i = line (codes "WAVE " ∷ net_text c i ∷ codes " SKEW " ∷ decimal (waves i).skew ∷ runs_text (waves i).cells ∷ [])
+wave_line c waves i =
+    line (codes "WAVE " ∷ net_text c i ∷ codes " SKEW " ∷ decimal (waves i).skew
+    ∷ runs_text (waves i).cells ∷ [])
 
 -- a line for each net, in the order of names
 abbrev pub wave_lines : Circuit → (ℕ → Wave Value) → List ℕ

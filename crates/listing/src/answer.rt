@@ -10,8 +10,8 @@ use crate::piece::{Piece, add_line};
 use flat_circuit::Circuit;
 use scald_base::{Bytes, NoMemory, Refusal};
 
-/// Puts the line of a refused text at the end of `out`: the number and the name of the refusal's kind,
-/// and its line and column. Where memory runs out, a part of the line may stand there.
+/// Puts the line of a refused text at the end of `out`: the number and the name of the refusal's
+/// kind, and its line and column. Where memory runs out, a part of the line may stand there.
 #[tactic(auto, unfolding(crate::specs::Answer::refusal_line))]
 pub fn write_refusal(refusal: &Refusal, out: &mut Bytes) -> Result<(), NoMemory>
     ensures ok { OnOk result (out.new ≡ out.old ++ refusal_line refusal.now) }
@@ -52,10 +52,10 @@ pub fn write_unsettled(c: &Circuit, net: u32, round: u32, out: &mut Bytes) -> Re
     )
 }
 
-/// Puts the line of the numbers of a report at the end of `out`, for a circuit of so many sections: its
-/// bits of nets, of instances with an output and of checkers, the rounds of its base, the tick from which
-/// on its waves hold, and how many faults it has. Where memory runs out, a part of the line may stand
-/// there.
+/// Puts the line of the numbers of a report at the end of `out`, for a circuit of so many sections:
+/// its bits of nets, of instances with an output and of checkers, the rounds of its base, the tick
+/// from which on its waves hold, and how many faults it has. Where memory runs out, a part of the
+/// line may stand there.
 #[tactic(auto, unfolding(crate::specs::Answer::summary_line))]
 pub fn write_summary(
     c: &Circuit,
@@ -66,7 +66,8 @@ pub fn write_summary(
     out: &mut Bytes,
 ) -> Result<(), NoMemory>
     ensures ok { OnOk result (out.new ≡ out.old ++ summary_line c.now sections base tick faults) }
-    ensures err { OnErr result (HasPart out.old out.new (summary_line c.now sections base tick faults)) }
+    ensures err { OnErr result
+        (HasPart out.old out.new (summary_line c.now sections base tick faults)) }
 {
     let counts = counts_of(c);
     add_line(

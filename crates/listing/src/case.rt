@@ -57,8 +57,10 @@ pub struct CaseHead {
 /// The case's own line.
 #[tactic(auto, unfolding(crate::specs::Case::case_line))]
 fn add_case(out: &mut Bytes, head: CaseHead) -> Result<(), NoMemory>
-    ensures ok { OnOk result (out.new ≡ out.old ++ case_line head.number head.base head.rounds head.tick) }
-    ensures err { OnErr result (HasPart out.old out.new (case_line head.number head.base head.rounds head.tick)) }
+    ensures ok { OnOk result (out.new ≡ out.old
+        ++ case_line head.number head.base head.rounds head.tick) }
+    ensures err { OnErr result (HasPart out.old out.new
+        (case_line head.number head.base head.rounds head.tick)) }
 {
     add_line(
         out,
@@ -83,8 +85,10 @@ fn add_shown_waves<W: CyclicWave<Item = Value>>(
     mode: Mode,
 ) -> Result<(), NoMemory>
     requires { FitWaves c.now waves.now }
-    ensures ok { let all = waves_of waves.now in OnOk result (out.new ≡ out.old ++ shown_waves c.now mode all) }
-    ensures err { let all = waves_of waves.now in OnErr result (HasPart out.old out.new (shown_waves c.now mode all)) }
+    ensures ok { let all = waves_of waves.now in
+        OnOk result (out.new ≡ out.old ++ shown_waves c.now mode all) }
+    ensures err { let all = waves_of waves.now in
+        OnErr result (HasPart out.old out.new (shown_waves c.now mode all)) }
 {
     if mode.shows_waves() {
         add_waves(out, c, waves)
@@ -123,7 +127,8 @@ pub fn write_case<W: CyclicWave<Item = Value>>(
 ) -> Result<(), NoMemory>
     requires { FitWaves c.now waves.now }
     ensures ok { let all = waves_of waves.now in OnOk result (out.new
-        ≡ out.old ++ case_lines c.now mode head.number head.base head.rounds head.tick all faults.now) }
+        ≡ out.old
+        ++ case_lines c.now mode head.number head.base head.rounds head.tick all faults.now) }
     ensures err { let all = waves_of waves.now in OnErr result (HasPart out.old out.new
         (case_lines c.now mode head.number head.base head.rounds head.tick all faults.now)) }
 {

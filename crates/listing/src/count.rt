@@ -32,7 +32,8 @@ pub fn counts_of(c: &Circuit) -> Counts
 /// Whether an instance has an output.
 fn has_output(c: &Circuit, instance: u32) -> bool
     requires { instance < length c.now.instances }
-    ensures { (j : Instance) → slice_get c.now.instances instance ≡ Some j → result ≡ has_output j.kind }
+    ensures { (j : Instance) → slice_get c.now.instances instance ≡ Some j →
+        result ≡ has_output j.kind }
 {
     c.instance(instance).unwrap().kind.has_output()
 }

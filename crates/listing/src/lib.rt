@@ -1,6 +1,6 @@
 //! The report on a circuit, line by line: its head, the lines of each case with waves and faults as
-//! the mode asks, and the last line; and the one line that stands in place of a report where a text is
-//! refused, rounds do not settle, or the numbers of a report are asked for alone.
+//! the mode asks, and the last line; and the one line that stands in place of a report where a text
+//! is refused, rounds do not settle, or the numbers of a report are asked for alone.
 //!
 //! The layer above composes a report of [`begin_report`], [`write_case`] for each case, and
 //! [`end_report`]. Each call appends exactly its lines to the bytes that it is given. `specs/Head`,
@@ -8,7 +8,8 @@
 //! `specs/Run` and `specs/Fault`.
 //!
 //! A crate whose own lines name nets, instances and faults composes them of the same pieces
-//! ([`add_line`], [`add_pieces`]), with [`write_period`], [`write_fault`] and [`write_unnamed_fault`].
+//! ([`add_line`], [`add_pieces`]), with [`write_period`], [`write_fault`] and
+//! [`write_unnamed_fault`].
 #![tactic(auto)]
 
 // pieces of lines

@@ -1,7 +1,7 @@
 //! Lines, piece by piece.
 //!
-//! Each function puts its text at the end of the bytes. Its one error is that memory ran out, and then
-//! a part of the text may stand there.
+//! Each function puts its text at the end of the bytes. Its one error is that memory ran out, and
+//! then a part of the text may stand there.
 
 ghost use Rattle.std.specs.Prelude.{◌≡◌, ◌++◌, decimal, map, OnErr, OnOk};
 ghost use Rattle.std.specs.List.{flat_map};
@@ -34,8 +34,10 @@ fn add_number(out: &mut Bytes, number: u64) -> Result<(), NoMemory>
 
 /// One bit of what has this name.
 fn add_bit(out: &mut Bytes, name: &[u8], bit: u16) -> Result<(), NoMemory>
-    ensures ok { OnOk result (out.new ≡ out.old ++ bit_text (record { text = name.now; bit = bit })) }
-    ensures err { OnErr result (HasPart out.old out.new (bit_text (record { text = name.now; bit = bit }))) }
+    ensures ok { OnOk result (out.new ≡ out.old
+        ++ bit_text (record { text = name.now; bit = bit })) }
+    ensures err { OnErr result (HasPart out.old out.new
+        (bit_text (record { text = name.now; bit = bit }))) }
 {
     out.extend(name)?;
     out.extend(b"<")?;

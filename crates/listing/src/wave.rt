@@ -22,8 +22,10 @@ fn add_wave<W: CyclicWave<Item = Value>>(
     net: u32,
 ) -> Result<(), NoMemory>
     requires { net < length waves.now }
-    ensures ok { let all = waves_of waves.now in OnOk result (out.new ≡ out.old ++ wave_line c.now all net) }
-    ensures err { let all = waves_of waves.now in OnErr result (HasPart out.old out.new (wave_line c.now all net)) }
+    ensures ok { let all = waves_of waves.now in
+        OnOk result (out.new ≡ out.old ++ wave_line c.now all net) }
+    ensures err { let all = waves_of waves.now in
+        OnErr result (HasPart out.old out.new (wave_line c.now all net)) }
 {
     let found = waves.at(net);
     let before = [
@@ -44,8 +46,10 @@ pub fn add_waves<W: CyclicWave<Item = Value>>(
     waves: &Waves<W>,
 ) -> Result<(), NoMemory>
     requires { FitWaves c.now waves.now }
-    ensures ok { let all = waves_of waves.now in OnOk result (out.new ≡ out.old ++ wave_lines c.now all) }
-    ensures err { let all = waves_of waves.now in OnErr result (HasPart out.old out.new (wave_lines c.now all)) }
+    ensures ok { let all = waves_of waves.now in
+        OnOk result (out.new ≡ out.old ++ wave_lines c.now all) }
+    ensures err { let all = waves_of waves.now in
+        OnErr result (HasPart out.old out.new (wave_lines c.now all)) }
 {
     c.known();
     for place in 0..c.net_count() {

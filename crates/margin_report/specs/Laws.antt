@@ -14,25 +14,30 @@ use Rattle.margin_report.specs.Margin.{faults_with, fits, margin, spare, written
 -- Where a value fits, so does each smaller one: where one does not, no greater one does.
 abbrev pub FittingIsMonotone : Type 0
 FittingIsMonotone =
-    (c : Circuit) (cases : List Case) (k : ℕ) (j : Instance) (parameter : Parameter) (less value : ℕ) →
+    (c : Circuit) (cases : List Case) (k : ℕ) (j : Instance) (parameter : Parameter)
+    (less value : ℕ) →
     IsPeriod (period c.header) → less ≤ value →
     fits c cases k j parameter value ≡ true → fits c cases k j parameter less ≡ true
 
 -- So much more than it is written fits and may be written, and nothing above that does both.
-pub record IsGreatest (c : Circuit) (cases : List Case) (k : ℕ) (j : Instance) (parameter : Parameter) (more : ℕ) : Type 0 where
+pub record IsGreatest (c : Circuit) (cases : List Case) (k : ℕ) (j : Instance)
+    (parameter : Parameter) (more : ℕ) : Type 0 where
   pub may : more ≤ spare (period c.header) j.limits parameter
   pub fitting : fits c cases k j parameter (written j.limits parameter + more) ≡ true
   pub greatest : (m : ℕ) → m ≤ spare (period c.header) j.limits parameter →
       fits c cases k j parameter (written j.limits parameter + m) ≡ true → m ≤ more
 
 -- With one more this case is the first that has a fault, and this is the fault.
-pub record IsNext (c : Circuit) (cases : List Case) (k : ℕ) (j : Instance) (parameter : Parameter) (more number : ℕ) (fault : Fault) : Type 0 where
+pub record IsNext (c : Circuit) (cases : List Case) (k : ℕ) (j : Instance) (parameter : Parameter)
+    (more number : ℕ) (fault : Fault) : Type 0 where
   pub others : List (ℕ × Fault)
-  pub is : faults_with c cases k j parameter (written j.limits parameter + (more + 1)) ≡ (number, fault) ∷ others
+  pub is : faults_with c cases k j parameter (written j.limits parameter + (more + 1))
+      ≡ (number, fault) ∷ others
 
 -- What a margin says is so.
 abbrev pub IsTrueOf : Circuit → List Case → ℕ → Instance → Parameter → Margin → Type 0
-IsTrueOf c cases k j parameter Faulty = fits c cases k j parameter (written j.limits parameter) ≡ false
+IsTrueOf c cases k j parameter Faulty =
+    fits c cases k j parameter (written j.limits parameter) ≡ false
 IsTrueOf c cases k j parameter (Limit more) =
     IsGreatest c cases k j parameter more × (more ≡ spare (period c.header) j.limits parameter)
 IsTrueOf c cases k j parameter (Next more number fault) =

@@ -1,4 +1,5 @@
--- How much more a checker may ask for: the values of a parameter that fit, and the margin of the written one.
+-- How much more a checker may ask for: the values of a parameter that fit, and the margin of the
+-- written one.
 use Rattle.std.specs.Prelude.{◌≡◌, ℕ, zero, suc, ◌+◌, ◌-◌, ◌≤◌, ◌==◌, Bool, true, false, is_none, List, [], ◌∷◌, filter_map, if◌then◌else◌, Option, Some, None, IfSome}
 use Rattle.std.specs.List.{list_all}
 use Rattle.std.specs.Option.{option_map}
@@ -37,8 +38,8 @@ written limits Hold = hold_of limits
 written limits High = high_of limits
 written limits Low = low_of limits
 
--- How much more may be written in a period of p ticks: setup and hold are together at most the period, and so is each of the
--- two widths.
+-- How much more may be written in a period of p ticks: setup and hold are together at most the
+-- period, and so is each of the two widths.
 abbrev pub spare : ℕ → Limits → Parameter → ℕ
 spare p limits Setup = p - (setup_of limits + hold_of limits)
 spare p limits Hold = p - (setup_of limits + hold_of limits)
@@ -71,8 +72,9 @@ IsBelow margin most = IfSome (more_in margin) (λ more. more ≤ most)
 
 -- ---- fitting
 
--- The fault that checker k has in these waves where a parameter has this value and the other is as it is written. The
--- width of high pulses has the faults of high pulses alone, and that of low ones those of low ones.
+-- The fault that checker k has in these waves where a parameter has this value and the other is as
+-- it is written. The width of high pulses has the faults of high pulses alone, and that of low ones
+-- those of low ones.
 abbrev pub fault_with : Circuit → Waves → ℕ → Instance → Parameter → ℕ → Option Fault
 fault_with c ws k j Setup value = point_fault c ws k j (Edges value (hold_of j.limits))
 fault_with c ws k j Hold value = point_fault c ws k j (Edges (setup_of j.limits) value)
@@ -89,10 +91,13 @@ faults_with c cases k j parameter value = filter_map (numbered_fault c k j param
 
 -- The value fits: no case has such a fault.
 abbrev pub fits : Circuit → List Case → ℕ → Instance → Parameter → ℕ → Bool
-fits c cases k j parameter value = list_all (λ (case : Case). is_none (fault_with c case.waves k j parameter value)) cases
+fits c cases k j parameter value =
+    list_all (λ (case : Case). is_none (fault_with c case.waves k j parameter value)) cases
 
--- With so much more than it is written there is no fault in these waves, and with one more there is this one.
-pub record StopsAt (c : Circuit) (ws : Waves) (k : ℕ) (j : Instance) (parameter : Parameter) (more : ℕ) (fault : Fault) : Type 0 where
+-- With so much more than it is written there is no fault in these waves, and with one more there is
+-- this one.
+pub record StopsAt (c : Circuit) (ws : Waves) (k : ℕ) (j : Instance) (parameter : Parameter)
+    (more : ℕ) (fault : Fault) : Type 0 where
   pub fits : fault_with c ws k j parameter (written j.limits parameter + more) ≡ None
   pub stops : fault_with c ws k j parameter (written j.limits parameter + (more + 1)) ≡ Some fault
 
@@ -106,14 +111,16 @@ greatest_to test (suc n) = if test (suc n) then suc n else greatest_to test n
 -- by how much more than it is written a value that fits is at most
 abbrev pub most_more : Circuit → List Case → ℕ → Instance → Parameter → ℕ
 most_more c cases k j parameter =
-    greatest_to (λ m. fits c cases k j parameter (written j.limits parameter + m)) (spare (period c.header) j.limits parameter)
+    greatest_to (λ m. fits c cases k j parameter (written j.limits parameter + m))
+    (spare (period c.header) j.limits parameter)
 
 -- so much, and the first of these faults
 abbrev pub up_to : ℕ → List (ℕ × Fault) → Margin
 up_to more [] = Limit more
 up_to more (found ∷ others) = Next more found.0 found.1
 
--- what bounds that: the greatest value that may be written, or the first case that has a fault with one more
+-- what bounds that: the greatest value that may be written, or the first case that has a fault with
+-- one more
 abbrev pub bounded_by : Circuit → List Case → ℕ → Instance → Parameter → ℕ → Margin
 bounded_by c cases k j parameter more =
     if more == spare (period c.header) j.limits parameter then Limit more

@@ -23,7 +23,9 @@ use Rattle.margin_report.specs.Margin.{IsAskedBy, IsBelow, margin, parameters_in
 abbrev pub rows_in : Circuit → List Case → ℕ → Option Instance → List Row
 rows_in c cases k None = []
 rows_in c cases k (Some j) =
-    map (λ parameter. record { instance = k; parameter = parameter; margin = margin c cases k j parameter }) (parameters_in (check_of j.kind))
+    map
+    (λ parameter. record { instance = k; parameter = parameter; margin = margin c cases k j parameter })
+    (parameters_in (check_of j.kind))
 
 abbrev pub rows_at : Circuit → List Case → ℕ → List Row
 rows_at c cases k = rows_in c cases k (slice_get c.instances k)
@@ -52,11 +54,13 @@ abbrev pub margin_text : Circuit → Margin → List ℕ
 margin_text c Faulty = codes "FAULT"
 margin_text c (Limit more) = concat (decimal more ∷ codes " LIMIT" ∷ [])
 margin_text c (Next more case fault) =
-    concat (decimal more ∷ codes " NEXT CASE " ∷ decimal case ∷ codes " " ∷ unnamed_fault c fault ∷ [])
+    concat (
+    decimal more ∷ codes " NEXT CASE " ∷ decimal case ∷ codes " " ∷ unnamed_fault c fault ∷ [])
 
 unfoldable pub margin_line : Circuit → Row → List ℕ
 margin_line c row = line (
-    codes "MARGIN " ∷ instance_text c row.instance ∷ codes " " ∷ parameter_text row.parameter ∷ codes " " ∷ margin_text c row.margin ∷ [])
+    codes "MARGIN " ∷ instance_text c row.instance ∷ codes " " ∷ parameter_text row.parameter
+    ∷ codes " " ∷ margin_text c row.margin ∷ [])
 
 -- how many margins there are
 unfoldable pub count_line : ℕ → List ℕ
@@ -64,4 +68,5 @@ count_line count = line (codes "MARGINS " ∷ decimal count ∷ [])
 
 -- the version and the period, a line for each margin, and their count
 abbrev pub margin_lines : ℕ → Circuit → List Row → List ℕ
-margin_lines version c found = period_line version c ++ flat_map (margin_line c) found ++ count_line (length found)
+margin_lines version c found =
+    period_line version c ++ flat_map (margin_line c) found ++ count_line (length found)

@@ -14,8 +14,8 @@ use Rattle.margin_report.specs.declared.margin.Parameter.{Parameter}
 use Rattle.margin_report.specs.declared.margin.Parameter.TheVariants.{Setup, Hold, High, Low}
 use Rattle.margin_report.specs.Margin.{IsAskedBy, fault_with}
 
--- Those that instance k has in these waves: for setup and for hold any fault at an edge, for the width of high pulses those
--- of high pulses, for that of low ones those of low ones.
+-- Those that instance k has in these waves: for setup and for hold any fault at an edge, for the
+-- width of high pulses those of high pulses, for that of low ones those of low ones.
 abbrev pub own_faults : Circuit → Waves → ℕ → Parameter → List Fault
 own_faults c ws k Setup = listed (instance_fault c ws k)
 own_faults c ws k Hold = listed (instance_fault c ws k)
@@ -47,12 +47,15 @@ with_value j parameter value =
 
 -- the circuit with these instances in place of its own
 abbrev pub with_instances : Circuit → List Instance → Circuit
-with_instances c instances = record { header = c.header; nets = c.nets; instances = instances; order = c.order }
+with_instances c instances =
+    record { header = c.header; nets = c.nets; instances = instances; order = c.order }
 
--- A value is tried as if it were written: the fault is the one that the circuit has in which checker k has the value, whatever
--- its other instances are.
+-- A value is tried as if it were written: the fault is the one that the circuit has in which
+-- checker k has the value, whatever its other instances are.
 abbrev pub TriedAsWritten : Type 0
 TriedAsWritten =
-    (c : Circuit) (instances : List Instance) (ws : Waves) (k : ℕ) (j : Instance) (parameter : Parameter) (value : ℕ) →
+    (c : Circuit) (instances : List Instance) (ws : Waves) (k : ℕ) (j : Instance)
+    (parameter : Parameter) (value : ℕ) →
     IsAskedBy j parameter → slice_get instances k ≡ Some (with_value j parameter value) →
-    own_faults (with_instances c instances) ws k parameter ≡ listed (fault_with c ws k j parameter value)
+    own_faults (with_instances c instances) ws k parameter
+    ≡ listed (fault_with c ws k j parameter value)

@@ -1,8 +1,8 @@
 //! How much more the checkers of a drawing may ask for before a case has a fault.
 //!
-//! The program calls [`margin_main`], the main call of `program_call` for the program [`MarginProgram`].
-//! `specs/Margin` says which values of a parameter fit and what its margin is, `specs/Report` which lines
-//! there are, and `specs/Laws` what holds of every margin.
+//! The program calls [`margin_main`], the main call of `program_call` for the program
+//! [`MarginProgram`]. `specs/Margin` says which values of a parameter fit and what its margin is,
+//! `specs/Report` which lines there are, and `specs/Laws` what holds of every margin.
 #![tactic(auto)]
 
 // margins, case by case

@@ -25,12 +25,14 @@ pub enum Margin {
     Fault,
     /// By so many ticks, up to the greatest value that the parameter may have.
     Limit(u16),
-    /// By so many ticks. With one more, this case is the first that has a fault, and this is the fault.
+    /// By so many ticks. With one more, this case is the first that has a fault, and this is the
+    /// fault.
     Next { more: u16, case: u32, fault: Fault },
 }
 
 impl Margin {
-    /// By how much more the value could be, in ticks; `None` exactly where the written one does not fit.
+    /// By how much more the value could be, in ticks; `None` exactly where the written one does not
+    /// fit.
     pub fn more(self) -> Option<u16>
         ensures { result ≡ more_in self }
     {

@@ -44,9 +44,9 @@ impl Replier for MarginProgram {
 /// Reads a drawing and writes by how much more each of its checkers may ask for: a line for each
 /// parameter of each bit of a checker, in the order of expansion. Its name alone asks for it.
 ///
-/// `Done` comes where the drawing is accepted and its waves settle, whether there are faults or not. Why a
-/// drawing is refused, or which net does not settle, is written as `verify` has it. All of the answer is
-/// made before the first byte of it is written.
+/// `Done` comes where the drawing is accepted and its waves settle, whether there are faults or
+/// not. Why a drawing is refused, or which net does not settle, is written as `verify` has it. All
+/// of the answer is made before the first byte of it is written.
 pub fn margin_main<S: Source, K: Sink>(
     alloc: Global,
     words: &Words,
@@ -57,7 +57,8 @@ pub fn margin_main<S: Source, K: Sink>(
     ensures call { IsCall margins nothing_more words.now result
         (devices S.left S.faults K.taken K.faults) source.old source.new sink.old sink.new }
 
-    // If the source tells its bytes and no device fails, a text whose circuit and cases settle gets its margins.
+    // If the source tells its bytes and no device fails, a text whose circuit and cases settle gets
+    // its margins.
     ensures finished { IfSome (S.left source.old) (λ text. asks margins words.now ≡ true →
         length text ≤ most_bytes → ¬ Rose (S.faults source.old) (S.faults source.new) →
         ¬ Rose (K.faults sink.old) (K.faults sink.new) →
@@ -68,8 +69,8 @@ pub fn margin_main<S: Source, K: Sink>(
     ensures loopless { (text : List ℕ) → AreTold margins words.now (S.left source.old) text →
         SettlesLoopless text result }
 
-    // A value is tried as if it were written; where one does not fit, no greater one does; and a margin is what
-    // its line says.
+    // A value is tried as if it were written; where one does not fit, no greater one does; and a
+    // margin is what its line says.
     ensures as_written { TriedAsWritten }
     ensures monotone { FittingIsMonotone }
     ensures margins_true { MarginsAreTrue }

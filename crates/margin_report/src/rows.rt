@@ -87,7 +87,8 @@ fn lowered<W: CyclicWave<Item = Value>>(
     requires there { slice_get c.now.instances row.instance ≡ Some checker.now }
     requires asked { IsAskedBy checker.now row.parameter }
     requires within { AreWithin (period c.now.header) checker.now.limits row.parameter }
-    requires below { IsBelow row.margin (most_more (period c.now.header) checker.now.limits row.parameter) }
+    requires below { IsBelow row.margin
+        (most_more (period c.now.header) checker.now.limits row.parameter) }
     requires fit { FitWaves c.now waves.now }
     ensures below { IfOk result (λ m.
         IsBelow m (most_more (period c.now.header) checker.now.limits row.parameter)) }

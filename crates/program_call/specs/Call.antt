@@ -15,7 +15,8 @@ pub record Devices (S K : Type 0) : Type 0 where
   pub taken : K → Option (List ℕ)
   pub sink_faults : K → ℕ
 
-abbrev pub devices : {S K : Type 0} → (S → Option (List ℕ)) → (S → ℕ) → (K → Option (List ℕ)) → (K → ℕ) → Devices S K
+abbrev pub devices : {S K : Type 0} → (S → Option (List ℕ)) → (S → ℕ) → (K → Option (List ℕ)) →
+    (K → ℕ) → Devices S K
 devices left source_faults taken sink_faults = record {
   left = left;
   source_faults = source_faults;
@@ -45,21 +46,21 @@ nothing_more command text o = Unit {0}
 pub record IsCall {Command Outcome S K : Type 0} (m : Meaning Command Outcome)
     (promised : Command → List ℕ → Outcome → Type 0) (words : List (List ℕ)) (o : Outcome)
     (d : Devices S K) (source source' : S) (sink sink' : K) : Type 0 where
-  -- Unrecognised words have their own answer. Nothing is read for them, nor for a form that does not
-  -- read, and nothing is written if the outcome is silent.
+  -- Unrecognised words have their own answer. Nothing is read for them, nor for a form that does
+  -- not read, and nothing is written if the outcome is silent.
   pub bad_words : (i : ℕ) → m.command_of words ≡ Err i → o ≡ m.ended (BadWords i)
   pub bad_words_only : (i : ℕ) → o ≡ m.ended (BadWords i) → m.command_of words ≡ Err i
   pub unread : asks m words ≡ false → source' ≡ source
   pub unwritten : is_silent m o ≡ true → sink' ≡ sink
-  -- If the source tells its bytes and no device that is used fails: the answer that the words and the
-  -- bytes have, with exactly its bytes, or no memory.
+  -- If the source tells its bytes and no device that is used fails: the answer that the words and
+  -- the bytes have, with exactly its bytes, or no memory.
   pub whole : (text : List ℕ) → AreTold m words (d.left source) text →
       (asks m words ≡ true → Rose (d.source_faults source) (d.source_faults source') → ⊥) →
       (Rose (d.sink_faults sink) (d.sink_faults sink') → ⊥) →
       (o ≡ m.ended NoMemory) ⊎ IsAnswered m words text o (d.taken sink) (d.taken sink')
-  -- Whatever the devices did, an outcome that speaks of the text comes only if it is the text's own,
-  -- all of the text was read, and all of the answer was written. Of what a source tells no more than
-  -- one byte past the limit is read.
+  -- Whatever the devices did, an outcome that speaks of the text comes only if it is the text's
+  -- own, all of the text was read, and all of the answer was written. Of what a source tells no
+  -- more than one byte past the limit is read.
   pub truthful : (text : List ℕ) → AreTold m words (d.left source) text → speaks m o ≡ true →
       IsAnswered m words text o (d.taken sink) (d.taken sink')
   pub front : ReadsFront (d.left source) (d.left source') (most_for m words)

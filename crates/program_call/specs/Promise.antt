@@ -12,8 +12,8 @@ use Rattle.timing_analysis.specs.Case.{Case, AreSettled, listed_cases}
 use Rattle.timing_analysis.specs.Drawn.{DrawsCircuit, IsLoopless}
 use Rattle.program_call.specs.Answer.{Reporting, limit_for}
 
--- The outcomes that speak of a text in which something is counted: it has none of it, or some; it is refused, or its
--- waves do not settle.
+-- The outcomes that speak of a text in which something is counted: it has none of it, or some; it
+-- is refused, or its waves do not settle.
 abbrev pub may_count : Outcome → Bool
 may_count Clean = true
 may_count (Faulty n) = not (n == 0)

@@ -11,9 +11,9 @@ use std::alloc::Global;
 
 /// Answers what the words ask the program for and writes it to the sink.
 ///
-/// Where the words are of a form that reads, the source is read to its end, or to the first byte past
-/// the most that the program reads, or to its first fault. All of the answer is made before the first
-/// byte of it is written.
+/// Where the words are of a form that reads, the source is read to its end, or to the first byte
+/// past the most that the program reads, or to its first fault. All of the answer is made before
+/// the first byte of it is written.
 ///
 /// `undriven` becomes what the program sets it to (`Program::reply`).
 pub fn main_call<P: Program, S: Source, K: Sink>(
@@ -50,13 +50,17 @@ fn asked<P: Program, S: Source>(
     ensures form { IfOk result (λ asked. P.meaning.command_of words.now ≡ Ok asked.0) }
     ensures within { IfOk result (λ asked. P.within asked.0) }
     ensures all { IfOk result (λ asked. P.meaning.reads asked.0 ≡ true →
-        ReadsAll (S.left source.old) (S.left source.new) (P.meaning.most_bytes (Ok asked.0)) asked.1) }
+        ReadsAll (S.left source.old) (S.left source.new)
+        (P.meaning.most_bytes (Ok asked.0)) asked.1) }
     ensures short { IfOk result (λ asked. length asked.1 ≤ P.meaning.most_bytes (Ok asked.0)) }
-    ensures ended { IfErr result (EndsAsking P.meaning words.now (S.left source.old) (S.left source.new)
+    ensures ended { IfErr result
+        (EndsAsking P.meaning words.now (S.left source.old) (S.left source.new)
         (S.faults source.old) (S.faults source.new)) }
     ensures unread { asks P.meaning words.now ≡ false → source.new ≡ source.old }
-    ensures front { ReadsFront (S.left source.old) (S.left source.new) (most_for P.meaning words.now) }
-    ensures steady { ¬ IsErrOf result CallEnd.ReadFault → S.faults source.new ≡ S.faults source.old }
+    ensures front { ReadsFront (S.left source.old) (S.left source.new)
+        (most_for P.meaning words.now) }
+    ensures steady { ¬ IsErrOf result CallEnd.ReadFault →
+        S.faults source.new ≡ S.faults source.old }
 {
     let command = match P::read_words(words) {
         Ok(command) => command,
@@ -83,9 +87,12 @@ fn text_for<P: Program, S: Source>(
     ensures asked { IsErr result → P.meaning.reads command ≡ true }
     ensures too_long { IsErrOf result ReadEnd.TooLong →
         ReadsPast (S.left source.old) (S.left source.new) (P.meaning.most_bytes (Ok command)) }
-    ensures front { ReadsFront (S.left source.old) (S.left source.new) (P.meaning.most_bytes (Ok command)) }
-    ensures fault { IsErrOf result ReadEnd.ReadFault → Rose (S.faults source.old) (S.faults source.new) }
-    ensures steady { ¬ IsErrOf result ReadEnd.ReadFault → S.faults source.new ≡ S.faults source.old }
+    ensures front { ReadsFront (S.left source.old) (S.left source.new)
+        (P.meaning.most_bytes (Ok command)) }
+    ensures fault { IsErrOf result ReadEnd.ReadFault →
+        Rose (S.faults source.old) (S.faults source.new) }
+    ensures steady { ¬ IsErrOf result ReadEnd.ReadFault →
+        S.faults source.new ≡ S.faults source.old }
 {
     if P::reads(command) {
         read_all(alloc, source, P::most_bytes(command))

@@ -27,7 +27,8 @@ pub fn refused(alloc: Global, refusal: Refusal) -> Result<Reply<Outcome>, NoMemo
 /// The answer where a circuit or a case of it does not settle: the line of the first net that still
 /// changes in the round at the limit.
 pub fn ended(alloc: Global, circuit: &Circuit, end: EngineEnd) -> Result<Reply<Outcome>, NoMemory>
-    requires { (place round : ℕ) → end ≡ EngineEnd.Unsettled place round → place < length circuit.now.order }
+    requires { (place round : ℕ) → end ≡ EngineEnd.Unsettled place round →
+        place < length circuit.now.order }
     ensures { IfOk result (λ reply. IsEnded circuit.now end reply.outcome reply.bytes) }
 {
     match end {

@@ -25,8 +25,8 @@ pub trait Program {
     /// What is promised of a text whose reply has this outcome, beside the outcome and the bytes.
     ghost promised: { Self.Command → List ℕ → Self.Outcome → Type 0 } = { λ command text o. Unit {0} };
 
-    /// What the words ask for. Where they are unrecognised, `Err` is the number of the first with which
-    /// no form continues, from 0, or the count of words where one is missing.
+    /// What the words ask for. Where they are unrecognised, `Err` is the number of the first with
+    /// which no form continues, from 0, or the count of words where one is missing.
     fn read_words(words: &Words) -> Result<Self::Command, u32>
         ensures is { result ≡ meaning.command_of words.now }
         ensures within { IfOk result within };
@@ -51,7 +51,8 @@ pub trait Program {
     ) -> Result<Reply<Self::Outcome>, NoMemory>
         requires within { within command }
         requires short { length text.now ≤ meaning.most_bytes (Ok command) }
-        ensures is { IfOk result (λ reply. meaning.Replied command text.now reply.outcome reply.bytes) }
+        ensures is { IfOk result (λ reply.
+            meaning.Replied command text.now reply.outcome reply.bytes) }
         ensures promised { IfOk result (λ reply. promised command text.now reply.outcome) };
 
     /// The outcome of a call that has this end.

@@ -20,13 +20,13 @@ use step_values::Value;
 use timing_analysis::{Subject, circuit_of, read_text};
 use wave_core::CyclicWave;
 
-/// The reply to a text of fewer than 4,294,967,295 bytes: what `R` reports of its circuit, after at most
-/// so many rounds of the base and of each case where the number is given, at most 10,000,000, or else as
-/// many as the circuit's own limit has; or why the text is refused, or which net does not settle. It is
-/// the same whichever kind of waves is chosen.
+/// The reply to a text of fewer than 4,294,967,295 bytes: what `R` reports of its circuit, after at
+/// most so many rounds of the base and of each case where the number is given, at most 10,000,000,
+/// or else as many as the circuit's own limit has; or why the text is refused, or which net does
+/// not settle. It is the same whichever kind of waves is chosen.
 ///
-/// Where the text is accepted, `undriven` becomes how many nets of its circuit nothing determines: neither
-/// a driver nor an assertion nor a case. Nothing is promised of that number.
+/// Where the text is accepted, `undriven` becomes how many nets of its circuit nothing determines:
+/// neither a driver nor an assertion nor a case. Nothing is promised of that number.
 pub fn reply_to<R: Reporter, W: CyclicWave<Item = Value>>(
     alloc: Global,
     text: &[u8],
@@ -57,12 +57,13 @@ pub fn reply_to<R: Reporter, W: CyclicWave<Item = Value>>(
     }
 }
 
-/// What is kept of the drawing of a text, and what is evaluated of it. The tree of the drawing goes before
-/// its circuit is finished.
+/// What is kept of the drawing of a text, and what is evaluated of it. The tree of the drawing goes
+/// before its circuit is finished.
 fn read<R: Reporter>(alloc: Global, text: &[u8]) -> Result<(R::Kept, Subject), Stop>
     requires { length text.now < 2 ^ 32 - 1 }
     ensures read { IfOk result (λ read. IsRead R.keeps text.now read.0 read.1) }
-    ensures refused { IfErr result (λ stop. (r : Refusal) → stop ≡ Stop.Refused r → IsTextRefused text.now r) }
+    ensures refused { IfErr result (λ stop. (r : Refusal) → stop ≡ Stop.Refused r →
+        IsTextRefused text.now r) }
 {
     let drawing = match read_text(alloc, text) {
         Ok(drawing) => drawing,

@@ -13,8 +13,8 @@ fn is_free(circuit: &Circuit, net: u32) -> bool {
     }
 }
 
-/// How many nets have neither a driver nor an assertion, and are set by no case. A run may hold such a
-/// net at either bit.
+/// How many nets have neither a driver nor an assertion, and are set by no case. A run may hold
+/// such a net at either bit.
 pub(crate) fn count_undriven(
     alloc: Global,
     circuit: &Circuit,

@@ -35,7 +35,8 @@ pub trait Replier {
         ensures { IsLawful (wordless word replied) };
 }
 
-/// The program that the name of `R` asks for, and which replies as `R` does to the text that it reads.
+/// The program that the name of `R` asks for, and which replies as `R` does to the text that it
+/// reads.
 pub struct Wordless<R: Replier> {
     replier: PhantomData<R>,
 }

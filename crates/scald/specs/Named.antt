@@ -53,14 +53,22 @@ of_run Is (answer.Sections o) = ⊥
 of_run Is (answer.Run o) = Is o
 
 -- The answer is that of a main call to all words, with what it did to its devices.
-abbrev pub IsAnswerOf : {S K : Type 0} → Call → List (List ℕ) → Answer → Devices S K → S → S → K → K → Type 0
-IsAnswerOf Tool words a d s s' k k' = of_drawing (λ o. IsCall verifier IsPromised words o d s s' k k') a
-IsAnswerOf Notes words a d s s' k k' = of_drawing (λ o. IsCall notes_program nothing_more words o d s s' k k') a
-IsAnswerOf Margins words a d s s' k k' = of_drawing (λ o. IsCall margins nothing_more words o d s s' k k') a
-IsAnswerOf Chains words a d s s' k k' = of_drawing (λ o. IsCall chains nothing_more words o d s s' k k') a
-IsAnswerOf Explanations words a d s s' k k' = of_drawing (λ o. IsCall explainer nothing_more words o d s s' k k') a
-IsAnswerOf Sections words a d s s' k k' = of_sections (λ o. IsCall composer IsPromisedJoined words o d s s' k k') a
-IsAnswerOf Simulator words a d s s' k k' = of_run (λ o. IsCall simulator nothing_more words o d s s' k k') a
+abbrev pub IsAnswerOf : {S K : Type 0} → Call → List (List ℕ) → Answer → Devices S K → S → S → K →
+    K → Type 0
+IsAnswerOf Tool words a d s s' k k' =
+    of_drawing (λ o. IsCall verifier IsPromised words o d s s' k k') a
+IsAnswerOf Notes words a d s s' k k' =
+    of_drawing (λ o. IsCall notes_program nothing_more words o d s s' k k') a
+IsAnswerOf Margins words a d s s' k k' =
+    of_drawing (λ o. IsCall margins nothing_more words o d s s' k k') a
+IsAnswerOf Chains words a d s s' k k' =
+    of_drawing (λ o. IsCall chains nothing_more words o d s s' k k') a
+IsAnswerOf Explanations words a d s s' k k' =
+    of_drawing (λ o. IsCall explainer nothing_more words o d s s' k k') a
+IsAnswerOf Sections words a d s s' k k' =
+    of_sections (λ o. IsCall composer IsPromisedJoined words o d s s' k k') a
+IsAnswerOf Simulator words a d s s' k k' =
+    of_run (λ o. IsCall simulator nothing_more words o d s s' k k') a
 
 -- ---- the status
 

@@ -1,12 +1,13 @@
-//! The timing verifier as a program: it reads a drawing, or several, from standard input and writes the report to
-//! standard output. Its words are its arguments, and it ends with the status of the outcome. Where there
-//! is no answer to the drawing, standard error says why, and what may help; standard output has the answer
-//! alone.
+//! The timing verifier as a program: it reads a drawing, or several, from standard input and writes
+//! the report to standard output. Its words are its arguments, and it ends with the status of the
+//! outcome. Where there is no answer to the drawing, standard error says why, and what may help;
+//! standard output has the answer alone.
 //!
-//! The first word names a main call: `notes` is `drawing_notes::notes_main`, `margins` is `margin_report::margin_main`, `chains` is
-//! `fault_chain::chain_main`, `explain` is `fault_report::explain_main`, `sections` is
-//! `section_compose::sections_main`, `run` and `judge` are `trace_tool::trace_main`, and all other words are
-//! those of `scald_tool::tool_main`. The contract of each says what its answer means.
+//! The first word names a main call: `notes` is `drawing_notes::notes_main`, `margins` is
+//! `margin_report::margin_main`, `chains` is `fault_chain::chain_main`, `explain` is
+//! `fault_report::explain_main`, `sections` is `section_compose::sections_main`, `run` and `judge`
+//! are `trace_tool::trace_main`, and all other words are those of `scald_tool::tool_main`. The
+//! contract of each says what its answer means.
 #![tactic(auto)]
 
 ghost use Rattle.std.specs.Prelude.{◌≡◌};
@@ -43,8 +44,8 @@ fn end_unstarted(rt: &impl Eprint, cause: Unstarted) -> ExitCode
     ExitCode::from(cause.status())
 }
 
-/// Says why there is no answer, if there is none, or else how many nets nothing determines, and gives the
-/// status of the outcome.
+/// Says why there is no answer, if there is none, or else how many nets nothing determines, and
+/// gives the status of the outcome.
 fn end(
     rt: &(impl Eprint + AllocGlobal),
     words: &Words,

@@ -57,7 +57,8 @@ impl Answer {
     }
 }
 
-/// The main call that the first word names, or that of the verifier if it names none or there is none.
+/// The main call that the first word names, or that of the verifier if it names none or there is
+/// none.
 fn call_of(words: &Words) -> Call
     ensures { result ≡ call_of words.now }
 {
@@ -83,7 +84,8 @@ fn call_of(words: &Words) -> Call
     }
 }
 
-/// The answer of the main call that the first word names, to all words. `undriven` is as `tool_main` sets it.
+/// The answer of the main call that the first word names, to all words. `undriven` is as
+/// `tool_main` sets it.
 pub fn answer_to<S: Source, K: Sink>(
     alloc: Global,
     words: &Words,
@@ -94,7 +96,8 @@ pub fn answer_to<S: Source, K: Sink>(
     ensures call { IsAnswerOf (call_of words.now) words.now result
         (devices S.left S.faults K.taken K.faults) source.old source.new sink.old sink.new }
 
-    // No fault, no break: in every run of the circuit that the text draws, from the printed tick on.
+    // No fault, no break: in every run of the circuit that the text draws, from the printed tick
+    // on.
     ensures clean { IfSome (S.left source.old) (λ text. call_of words.now ≡ Call.Tool →
         result ≡ Answer.Drawing Outcome.Clean → NeverBreaks text) }
     ensures faultless { IfSome (S.left source.old) (λ text. (o : Outcome) →

@@ -1,6 +1,6 @@
-//! What the program says on standard error: why it ends without an answer to the drawing, and beside an answer
-//! which nets cross between sections, and how many nets are taken as constant. The status tells what matters, so
-//! nothing is promised of these lines.
+//! What the program says on standard error: why it ends without an answer to the drawing, and
+//! beside an answer which nets cross between sections, and how many nets are taken as constant. The
+//! status tells what matters, so nothing is promised of these lines.
 
 use crate::named::Answer;
 use crate::traced::say_trace;
@@ -56,7 +56,8 @@ const TOO_LONG: &str = "scald: the drawing has more than 4194304 bytes";
 /// What is said where there are too few or too many sections.
 const BAD_COUNT: &str = "scald: there should be 2 to 64 sections, with a line ===== between them";
 
-/// Says why there is no answer. The status tells it too, so it does not matter where standard error fails.
+/// Says why there is no answer. The status tells it too, so it does not matter where standard error
+/// fails.
 pub fn say(rt: &impl Eprint, why: &str) {
     let _ = rt.eprintln(why);
 }
@@ -152,7 +153,8 @@ fn say_together(rt: &(impl Eprint + AllocGlobal), text: &[u8], outcome: &Section
     }
 }
 
-/// Says why there is no answer to sections, where there is none, and what there is to say of their text.
+/// Says why there is no answer to sections, where there is none, and what there is to say of their
+/// text.
 fn say_sections(
     rt: &(impl Eprint + AllocGlobal),
     words: &Words,

@@ -66,7 +66,8 @@ fn drawing_of<'a>(words: &Words, text: &'a [u8]) -> &'a [u8] {
     }
 }
 
-/// Says why the simulator has no answer, where it has none: `text` is what was read, where that was kept.
+/// Says why the simulator has no answer, where it has none: `text` is what was read, where that was
+/// kept.
 pub fn say_trace(
     rt: &(impl Eprint + AllocGlobal),
     words: &Words,

@@ -35,8 +35,8 @@ pub record Reported (mode : Mode) (version : ℕ) (c : Circuit) (base : ℕ) (ca
   pub outcome : o ≡ verdict_of (fault_count c cases)
   pub text : bytes ≡ report mode version c base cases
 
--- The numbers of the report on so many sections: the rounds of the base, the tick that is printed for case 0, which takes no
--- rounds, and the faults.
+-- The numbers of the report on so many sections: the rounds of the base, the tick that is printed
+-- for case 0, which takes no rounds, and the faults.
 pub record Measured (sections : ℕ) (c : Circuit) (base : ℕ) (cases : List Case) (o : Outcome)
     (bytes : List ℕ) : Type 0 where
   pub outcome : o ≡ Done
@@ -46,18 +46,19 @@ pub record Measured (sections : ℕ) (c : Circuit) (base : ℕ) (cases : List Ca
 abbrev pub Verified : Mode → Option ℕ → List ℕ → Outcome → List ℕ → Type 0
 Verified mode = Evaluated (λ d. Reported mode d.version)
 
--- What `bench` answers, on the drawing of so many sections and at its own limit: what `verify` does where that is refused or
--- does not settle, and else its numbers.
+-- What `bench` answers, on the drawing of so many sections and at its own limit: what `verify` does
+-- where that is refused or does not settle, and else its numbers.
 abbrev pub Benched : ℕ → Outcome → List ℕ → Type 0
 Benched sections = Evaluated (λ d. Measured sections) None (datapath sections)
 
--- What `format` answers on a text: the canonical text of the drawing that it draws, or why it draws none.
+-- What `format` answers on a text: the canonical text of the drawing that it draws, or why it draws
+-- none.
 pub data Formatted (text : List ℕ) : Outcome → List ℕ → Type 0 where
   undrawn : (r : Refusal) → IsRefusal text r → Formatted text (Refused r) (refusal_line r)
   drawn : (d : Drawing) → TextDraws text d → Formatted text Done (canonical d)
 
--- What `upgrade` answers on a text: the canonical text, in the last version of the language, of the drawing that it draws,
--- or why it draws none.
+-- What `upgrade` answers on a text: the canonical text, in the last version of the language, of the
+-- drawing that it draws, or why it draws none.
 pub data Upgrades (text : List ℕ) : Outcome → List ℕ → Type 0 where
   unreadable : (r : Refusal) → IsRefusal text r → Upgrades text (Refused r) (refusal_line r)
   readable : (d : Drawing) → TextDraws text d → Upgrades text Done (upgraded_text d)
@@ -80,7 +81,7 @@ verifier = record {
   end_of = end_of;
 }
 
--- The outcome and the bytes that are written, to words and to the bytes of the input. A form that does not read takes no
--- text to be too long.
+-- The outcome and the bytes that are written, to words and to the bytes of the input. A form that
+-- does not read takes no text to be too long.
 abbrev pub Answer : List (List ℕ) → List ℕ → Outcome → List ℕ → Type 0
 Answer = program.Answer verifier

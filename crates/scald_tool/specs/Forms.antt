@@ -36,8 +36,8 @@ pub record GoesOn (front : List (List ℕ)) : Type 0 where
   pub rest : List (List ℕ)
   pub is : front ++ rest ≡ words_for command
 
--- No form has these words, and this is the number of the first with which no form goes on, or their count where one is
--- missing.
+-- No form has these words, and this is the number of the first with which no form goes on, or their
+-- count where one is missing.
 pub record GoesWrong (words : List (List ℕ)) (i : ℕ) : Type 0 where
   pub no_form : (command : Command) → MayBeAsked command → words ≢ words_for command
   pub within : i ≤ length words
@@ -54,4 +54,5 @@ WordsAreRead = (words : List (List ℕ)) → AreReadAs words (command_of words)
 
 -- What may be asked for is what its own words are read as.
 abbrev pub WordsAreKnown : Type 0
-WordsAreKnown = (command : Command) → MayBeAsked command → command_of (words_for command) ≡ Ok command
+WordsAreKnown = (command : Command) → MayBeAsked command →
+    command_of (words_for command) ≡ Ok command

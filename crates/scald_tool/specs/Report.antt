@@ -10,11 +10,15 @@ use Rattle.timing_analysis.specs.Case.{Case, printed_tick, faults, fault_count}
 use Rattle.scald_tool.specs.declared.report.Report.{Report}
 
 abbrev pub case_text : Mode → Circuit → ℕ → Case → List ℕ
-case_text mode c base case = case_lines c mode case.listed.number base case.rounds (printed_tick c base case) case.waves (faults c case)
+case_text mode c base case =
+    case_lines c mode case.listed.number base case.rounds (printed_tick c base case) case.waves
+    (faults c case)
 
--- the head, with the version of the language that the circuit is drawn in, each case, and the last line
+-- the head, with the version of the language that the circuit is drawn in, each case, and the last
+-- line
 abbrev pub report : Mode → ℕ → Circuit → ℕ → List Case → List ℕ
-report mode version c base cases = head version c ++ flat_map (case_text mode c base) cases ++ last_line (fault_count c cases)
+report mode version c base cases =
+    head version c ++ flat_map (case_text mode c base) cases ++ last_line (fault_count c cases)
 
 -- A report while it is written: it has the head and the lines of these cases, and counts their
 -- faults.

@@ -1,5 +1,6 @@
--- The forms of words that the program has: `verify`, then `waves` or `faults` where one is asked for alone, then `rounds=N`
--- where the rounds are to be so many at most; `format`; `upgrade`; and `bench N`.
+-- The forms of words that the program has: `verify`, then `waves` or `faults` where one is asked
+-- for alone, then `rounds=N` where the rounds are to be so many at most; `format`; `upgrade`; and
+-- `bench N`.
 use Rattle.std.specs.Prelude.{ℕ, ◌+◌, ◌≤◌, ◌&&◌, nat_le, Bool, true, false, List, [], ◌∷◌, length, take, drop, codes, decimal, Option, Some, None, IfSome, Result, Ok, Err, if◌then◌else◌, ⊤}
 use Rattle.std.specs.Str.{bytes_eq}
 use Rattle.program_call.specs.Program as program
@@ -19,12 +20,14 @@ most_sections = 200
 
 -- what follows a front
 abbrev pub behind : List ℕ → List ℕ → Option (List ℕ)
-behind front word = if bytes_eq (take (length front) word) front then Some (drop (length front) word) else None
+behind front word =
+    if bytes_eq (take (length front) word) front then Some (drop (length front) word) else None
 
 -- the number of 1 to the most whose decimal text this is
 unfoldable pub number_in : ℕ → List ℕ → Option ℕ
 number_in most digits =
-    if bytes_eq digits (decimal (value_of digits)) && (nat_le 1 (value_of digits) && nat_le (value_of digits) most)
+    if bytes_eq digits (decimal (value_of digits))
+    && (nat_le 1 (value_of digits) && nat_le (value_of digits) most)
     then Some (value_of digits) else None
 
 abbrev pub limit_behind : Option (List ℕ) → Option ℕ
@@ -36,7 +39,9 @@ abbrev pub limit_of : List ℕ → Option ℕ
 limit_of word = limit_behind (behind (codes "rounds=") word)
 
 abbrev pub mode_of : List ℕ → Option Mode
-mode_of word = if bytes_eq word (codes "waves") then Some Waves else (if bytes_eq word (codes "faults") then Some Faults else None)
+mode_of word =
+    if bytes_eq word (codes "waves") then Some Waves
+    else (if bytes_eq word (codes "faults") then Some Faults else None)
 
 -- no word follows those of the form; the first that did would have this number
 abbrev pub alone : Command → ℕ → List (List ℕ) → Result Command ℕ
@@ -68,8 +73,8 @@ abbrev pub behind_bench : List (List ℕ) → Result Command ℕ
 behind_bench [] = Err 1
 behind_bench (w ∷ ws) = with_sections (number_in most_sections w) ws
 
--- The form that the words have. Of other words it is the number of the first with which no form goes on, or the count of
--- words where one is missing.
+-- The form that the words have. Of other words it is the number of the first with which no form
+-- goes on, or the count of words where one is missing.
 abbrev pub command_of : List (List ℕ) → Result Command ℕ
 command_of [] = Err 0
 command_of (w ∷ ws) =

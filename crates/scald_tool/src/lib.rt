@@ -1,10 +1,10 @@
-//! The whole call of the timing verifier: from its words and the bytes of a drawing to the bytes of a
-//! report and an outcome.
+//! The whole call of the timing verifier: from its words and the bytes of a drawing to the bytes of
+//! a report and an outcome.
 //!
-//! The program calls `tool_main`, the main call of `program_call` for the program `Verifier`. What it
-//! promises stands in `specs/Promise`, over the answer that words and a text have (`Answer`): by the
-//! circuit that the text draws, its settled cases (`timing_analysis`, which also says what never breaks
-//! in them) and the lines on them (`Report`).
+//! The program calls `tool_main`, the main call of `program_call` for the program `Verifier`. What
+//! it promises stands in `specs/Promise`, over the answer that words and a text have (`Answer`): by
+//! the circuit that the text draws, its settled cases (`timing_analysis`, which also says what
+//! never breaks in them) and the lines on them (`Report`).
 #![tactic(auto)]
 
 // what comes in

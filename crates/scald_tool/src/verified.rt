@@ -14,12 +14,12 @@ use std::alloc::Global;
 use step_values::Value;
 use wave_core::CyclicWave;
 
-/// What `verify` answers to a text of fewer than 4,294,967,295 bytes, in this mode and, where a number is given,
-/// with at most so many rounds of the base and of each case, at most 10,000,000. It is the same whichever kind of
-/// waves is chosen.
+/// What `verify` answers to a text of fewer than 4,294,967,295 bytes, in this mode and, where a
+/// number is given, with at most so many rounds of the base and of each case, at most 10,000,000.
+/// It is the same whichever kind of waves is chosen.
 ///
-/// The answer is `Clean`, `Faulty`, `Refused` or `Unsettled`, and `out` grows by exactly its bytes; or it is
-/// `NoMemory`, and `out` is as before.
+/// The answer is `Clean`, `Faulty`, `Refused` or `Unsettled`, and `out` grows by exactly its bytes;
+/// or it is `NoMemory`, and `out` is as before.
 pub fn verify_text<W: CyclicWave<Item = Value>>(
     alloc: Global,
     text: &[u8],
@@ -29,9 +29,11 @@ pub fn verify_text<W: CyclicWave<Item = Value>>(
 ) -> Outcome
     requires short { length text.now < 2 ^ 32 - 1 }
     requires few { IfSome rounds (λ limit. limit ≤ 10000000) }
-    ensures whole { (result ≡ Outcome.NoMemory) ⊎ IsVerified mode rounds text.now result out.old out.new }
+    ensures whole { (result ≡ Outcome.NoMemory)
+        ⊎ IsVerified mode rounds text.now result out.old out.new }
     ensures no_memory { result ≡ Outcome.NoMemory → out.new ≡ out.old }
-    ensures given { (result ≡ Outcome.NoMemory) ⊎ (may_give (Command.Verify mode rounds) result ≡ true) }
+    ensures given { (result ≡ Outcome.NoMemory)
+        ⊎ (may_give (Command.Verify mode rounds) result ≡ true) }
     ensures clean { result ≡ Outcome.Clean → NeverBreaks text.now }
     ensures faultless { has_report result ≡ true → FaultlessNeverBreaks text.now }
     ensures loopless { (place round : ℕ) → rounds ≡ None →

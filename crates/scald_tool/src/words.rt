@@ -17,15 +17,15 @@ const MOST_SECTIONS: u32 = 200;
 /// What the program is asked for.
 #[derive(Clone, Copy, PartialEq, Eq, Debug)]
 pub enum Command {
-    /// `verify`: the report on a drawing, whole or in part, and how many rounds there may be where that
-    /// is asked for, 1 to 10,000,000.
+    /// `verify`: the report on a drawing, whole or in part, and how many rounds there may be where
+    /// that is asked for, 1 to 10,000,000.
     Verify { mode: Mode, rounds: Option<u32> },
     /// `format`: the canonical text of a drawing.
     Format,
     /// `upgrade`: the canonical text of a drawing in the last version of the language.
     Upgrade,
-    /// `bench`: the numbers of the report on the generated drawing of so many sections, 1 to 200. It reads
-    /// nothing.
+    /// `bench`: the numbers of the report on the generated drawing of so many sections, 1 to 200.
+    /// It reads nothing.
     Bench(u16),
 }
 

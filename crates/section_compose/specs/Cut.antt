@@ -7,8 +7,8 @@ abbrev pub unended : List ℕ → List (List ℕ)
 unended [] = []
 unended (byte ∷ line) = (byte ∷ line) ∷ []
 
--- The lines of a text, each with the byte 10 that ends it, after the front of a line. What follows the
--- last byte 10 is a line too, where it is not empty.
+-- The lines of a text, each with the byte 10 that ends it, after the front of a line. What follows
+-- the last byte 10 is a line too, where it is not empty.
 abbrev pub lines_after : List ℕ → List ℕ → List (List ℕ)
 lines_after line [] = unended line
 lines_after line (byte ∷ text) =

@@ -12,15 +12,17 @@ use Rattle.section_compose.specs.declared.section.Section.{Section}
 abbrev pub is_listed : {A : Type 0} → List A → Bool
 is_listed xs = not (length xs == 0)
 
--- The text draws the section: its circuit, by the version of its drawing, and whether it lists a case.
+-- The text draws the section: its circuit, by the version of its drawing, and whether it lists a
+-- case.
 pub record DrawsSection (text : List ℕ) (section : Section) : Type 0 where
   pub drawing : Drawing
   pub draws : Draws text drawing section.circuit
   pub version : section.version ≡ drawing.version
   pub cases : section.has_case ≡ is_listed drawing.cases
 
--- Why a section is refused: its text draws no drawing, or that is refused in expansion or by a rule of
--- circuits. Its cases are not looked at.
+-- Why a section is refused: its text draws no drawing, or that is refused in expansion or by a rule
+-- of circuits. Its cases are not looked at.
 pub data IsSectionRefused (text : List ℕ) (r : Refusal) : Type 0 where
   undrawn : IsRefusal text r → IsSectionRefused text r
-  unexpanded : (d : Drawing) → TextDraws text d → IsStopOf d (StopsRefused r) → IsSectionRefused text r
+  unexpanded : (d : Drawing) → TextDraws text d → IsStopOf d (StopsRefused r) →
+      IsSectionRefused text r

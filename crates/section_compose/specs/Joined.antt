@@ -15,8 +15,8 @@ pub record SameClocks (h k : Header) : Type 0 where
   pub pskew : h.pskew ≡ k.pskew
   pub cskew : h.cskew ≡ k.cskew
 
--- The section that drives a net which crosses: it asserts something there, and its driver takes a tick at
--- least.
+-- The section that drives a net which crosses: it asserts something there, and its driver takes a
+-- tick at least.
 pub record IsDrivenBy (whole : List Circuit) (net : Net) : Type 0 where
   pub s : ℕ
   pub i : ℕ
@@ -32,12 +32,14 @@ pub record IsDrivenBy (whole : List Circuit) (net : Net) : Type 0 where
   pub slow : 1 ≤ instance.delay.min
   pub asserts : is_asserted same.spec ≡ true
 
--- All clocks are the same, a global net asserts the same wherever it stands, and a net that crosses has
--- such a driver.
+-- All clocks are the same, a global net asserts the same wherever it stands, and a net that crosses
+-- has such a driver.
 pub record AreJoined (whole : List Circuit) : Type 0 where
-  pub clocks : (s s' : ℕ) (c c' : Circuit) → slice_get whole s ≡ Some c → slice_get whole s' ≡ Some c' →
+  pub clocks : (s s' : ℕ) (c c' : Circuit) → slice_get whole s ≡ Some c →
+      slice_get whole s' ≡ Some c' →
       SameClocks c.header c'.header
   pub alike : (s i s' i' : ℕ) (c c' : Circuit) (net other : Net) → IsNetOf whole s i c net →
       IsNetOf whole s' i' c' other → AreOneNet net other → net.spec ≡ other.spec
-  pub driver : (s i : ℕ) (c : Circuit) (net : Net) → IsNetOf whole s i c net → crosses whole net ≡ true →
+  pub driver : (s i : ℕ) (c : Circuit) (net : Net) → IsNetOf whole s i c net →
+      crosses whole net ≡ true →
       IsDrivenBy whole net

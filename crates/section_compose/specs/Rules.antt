@@ -43,13 +43,15 @@ rule_at rule (Some net) = rule net
 
 abbrev pub net_break : Option Rule → ℕ → ℕ → Option Broken → Option Broken
 net_break None number place later = later
-net_break (Some rule) number place later = Some (record { rule = rule; section = number; net = place })
+net_break (Some rule) number place later =
+    Some (record { rule = rule; section = number; net = place })
 
 -- the first net that breaks a rule, of those in this order, whose first is at this place
 abbrev pub broken_nets : (Net → Option Rule) → Circuit → ℕ → ℕ → List ℕ → Option Broken
 broken_nets rule c number place [] = None
 broken_nets rule c number place (i ∷ rest) =
-    net_break (rule_at rule (slice_get c.nets i)) number place (broken_nets rule c number (place + 1) rest)
+    net_break (rule_at rule (slice_get c.nets i)) number place
+    (broken_nets rule c number (place + 1) rest)
 
 abbrev pub or_else : Option Broken → Option Broken → Option Broken
 or_else None later = later
@@ -60,7 +62,8 @@ or_else (Some broken) later = Some broken
 -- a net of this name asserts something else in the section, or alone asserts something
 abbrev pub asserts_otherwise : Net → Circuit → Bool
 asserts_otherwise net c =
-    list_any (λ (other : Net). has_name (net_name net) other && not (same_assertion net.spec other.spec)) c.nets
+    list_any (λ (other : Net). has_name (net_name net) other
+    && not (same_assertion net.spec other.spec)) c.nets
 
 -- It asserts the same wherever it stands, and is driven in one section.
 abbrev pub global_rule : List Circuit → Net → Option Rule

@@ -1,4 +1,5 @@
--- What is written alike: assertions, and the clocks of headers. Tests, since the rules are stated by them.
+-- What is written alike: assertions, and the clocks of headers. Tests, since the rules are stated
+-- by them.
 use Rattle.std.specs.Prelude.{ℕ, ◌==◌, Bool, true, false, not, ◌&&◌, if◌then◌else◌, List, [], ◌∷◌, Option, Some, None}
 use Rattle.scald_base.specs.Time.{Header}
 use Rattle.scald_base.specs.declared.assertion.Span.{Span}
@@ -40,4 +41,5 @@ same_assertion a b = false
 -- The period, in units and ticks, and the skews of clocks; wires may differ.
 abbrev pub same_clocks : Header → Header → Bool
 same_clocks a b =
-    (a.units == b.units) && ((a.ticks == b.ticks) && (same_pair a.pskew b.pskew && same_pair a.cskew b.cskew))
+    (a.units == b.units) && ((a.ticks == b.ticks)
+    && (same_pair a.pskew b.pskew && same_pair a.cskew b.cskew))

@@ -1,5 +1,6 @@
-//! What is said beside an answer on sections: which global nets cross, which no section drives, and which stand
-//! only in the section that drives them. The answer and the status are the same whatever is said here.
+//! What is said beside an answer on sections: which global nets cross, which no section drives, and
+//! which stand only in the section that drives them. The answer and the status are the same
+//! whatever is said here.
 
 use crate::cut::{Piece, sections_of};
 use crate::globals::{crosses, is_driven, is_driven_in_one, is_global, same_net};

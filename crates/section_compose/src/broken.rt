@@ -1,5 +1,5 @@
-//! What is said of the first rule of sections that is broken: the section, the net and its two places, and what
-//! to do. The answer and the status are the same whatever is said here.
+//! What is said of the first rule of sections that is broken: the section, the net and its two
+//! places, and what to do. The answer and the status are the same whatever is said here.
 
 use crate::beside::{pieces_of, read_sections};
 use crate::cut::Piece;
@@ -206,8 +206,8 @@ fn net_of(sections: &[Section], section: usize, place: u32) -> Option<&Net> {
     c.net(c.by_name(place)?)
 }
 
-/// Of a text of sections that break a rule: which section and which net, where the net stands in both sections,
-/// and what to do.
+/// Of a text of sections that break a rule: which section and which net, where the net stands in
+/// both sections, and what to do.
 pub fn explain_broken(alloc: Global, text: &[u8]) -> Lines {
     let mut out = Lines::new(alloc);
     let pieces = pieces_of(alloc, text);

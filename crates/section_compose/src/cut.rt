@@ -41,8 +41,8 @@ fn is_separator(line: &[u8]) -> bool
     line == b"=====\n".as_slice() || line == b"=====".as_slice()
 }
 
-/// Where the sections of a text lie, in their order. There is one at least. `NoMemory` comes where memory
-/// runs out.
+/// Where the sections of a text lie, in their order. There is one at least. `NoMemory` comes where
+/// memory runs out.
 pub fn sections_of(alloc: Global, text: &[u8]) -> Result<List<Piece>, NoMemory>
     requires { length text.now < 2 ^ 32 - 1 }
     ensures are { IfOk result (λ pieces. map (piece_of text.now) pieces ≡ sections_of text.now) }

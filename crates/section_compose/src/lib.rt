@@ -1,12 +1,13 @@
 //! Several drawings verified each by itself, and joined: a machine is larger than a drawing, and is
 //! drawn by several people.
 //!
-//! The program calls [`sections_main`]. A net with a global name is one net in all sections, and where
-//! it crosses from the section that drives it into another it is known there by its assertion alone.
-//! `specs/Cut` says which sections a text has, `specs/Rules` which rule they break first, and
-//! `specs/Joined` what it is worth that they break none; `specs/Evaluated` how one is evaluated, and
-//! `specs/Answer` what is answered. `specs/Whole` says what the sections are together: the whole
-//! circuit, its runs, and what never breaks in them where no section has a fault.
+//! The program calls [`sections_main`]. A net with a global name is one net in all sections, and
+//! where it crosses from the section that drives it into another it is known there by its assertion
+//! alone. `specs/Cut` says which sections a text has, `specs/Rules` which rule they break first,
+//! and `specs/Joined` what it is worth that they break none; `specs/Evaluated` how one is
+//! evaluated, and `specs/Answer` what is answered. `specs/Whole` says what the sections are
+//! together: the whole circuit, its runs, and what never breaks in them where no section has a
+//! fault.
 #![tactic(auto)]
 
 // what comes in

@@ -5,8 +5,8 @@ ghost use Rattle.section_compose.specs.Outcome.{ended, status_of, verdict_of};
 
 use scald_base::{CallEnd, Refusal};
 
-/// What a call on sections answers. Sections count from 1; a net is given by its position in name order
-/// in its section, from 0.
+/// What a call on sections answers. Sections count from 1; a net is given by its position in name
+/// order in its section, from 0.
 #[derive(Clone, Copy, PartialEq, Eq, Debug)]
 pub enum SectionsOutcome {
     /// No section has a fault: the report is written.
@@ -15,11 +15,11 @@ pub enum SectionsOutcome {
     Faulty(u32),
     /// A section is refused: the lines that say which and why are written.
     Refused { section: u32, refusal: Refusal },
-    /// The rounds of a section do not settle in the limit, which is `round`. The net is the first that
-    /// still changes: the lines that name it are written.
+    /// The rounds of a section do not settle in the limit, which is `round`. The net is the first
+    /// that still changes: the lines that name it are written.
     Unsettled { section: u32, net: u32, round: u32 },
-    /// There are words, though there should be none. The number is that of the first, 0. Nothing is read
-    /// or written.
+    /// There are words, though there should be none. The number is that of the first, 0. Nothing is
+    /// read or written.
     BadWords(u32),
     /// More bytes came than a text may have. Nothing is written.
     TooLong,
@@ -31,8 +31,8 @@ pub enum SectionsOutcome {
     NoMemory,
     /// There are so many sections, which is not 2 to 64. Nothing is written.
     BadCount(u32),
-    /// A section breaks a rule of sections that are joined, 24 to 29, and with which net, or 0 where the
-    /// rule is one of sections: the line that says so is written.
+    /// A section breaks a rule of sections that are joined, 24 to 29, and with which net, or 0
+    /// where the rule is one of sections: the line that says so is written.
     BadSection { section: u32, rule: u8, net: u32 },
 }
 
@@ -63,8 +63,9 @@ impl SectionsOutcome {
 }
 
 /// The status that a program ends with: 0 where there is no fault, 1 with faults, 2 refused, 3
-/// unsettled, 4 for bad words, 5 for a text that is too long, 6 and 7 where reading or writing failed, 8
-/// where memory ran out, 9 for a wrong number of sections, 10 where a rule of sections is broken.
+/// unsettled, 4 for bad words, 5 for a text that is too long, 6 and 7 where reading or writing
+/// failed, 8 where memory ran out, 9 for a wrong number of sections, 10 where a rule of sections is
+/// broken.
 pub fn sections_status(outcome: &SectionsOutcome) -> u8
     ensures { result ≡ status_of outcome.now }
 {

@@ -59,8 +59,8 @@ impl Rule {
     }
 }
 
-/// A rule that a section breaks. Sections count from 1; the net is its position in name order there, from
-/// 0, or 0 where the rule is one of sections.
+/// A rule that a section breaks. Sections count from 1; the net is its position in name order
+/// there, from 0, or 0 where the rule is one of sections.
 #[derive(Clone, Copy, PartialEq, Eq, Debug)]
 pub struct Broken {
     pub rule: Rule,
@@ -176,7 +176,8 @@ fn global_rule(before: &[Section], net: &Net) -> Option<Rule>
 
 /// The rule that the net of a number breaks, where there is one.
 fn global_rule_at(before: &[Section], circuit: &Circuit, number: u32) -> Option<Rule>
-    ensures { result ≡ rule_at (global_rule (circuits before.now)) (slice_get circuit.now.nets number) }
+    ensures { result ≡ rule_at (global_rule (circuits before.now))
+        (slice_get circuit.now.nets number) }
 {
     match circuit.net(number) {
         Some(net) => global_rule(before, net),
@@ -186,7 +187,8 @@ fn global_rule_at(before: &[Section], circuit: &Circuit, number: u32) -> Option<
 
 /// The first net of a section, in name order, that breaks such a rule.
 fn broken_global_in(before: &[Section], circuit: &Circuit, section: u32) -> Option<Broken>
-    ensures { result ≡ broken_nets (global_rule (circuits before.now)) circuit.now section 0 circuit.now.order }
+    ensures { result ≡ broken_nets
+        (global_rule (circuits before.now)) circuit.now section 0 circuit.now.order }
 {
     circuit.known();
     for net in 0..circuit.net_count() {
@@ -243,7 +245,8 @@ fn crossing_rule(sections: &[Section], circuit: &Circuit, net: &Net) -> Option<R
 /// The rule that the net of a number breaks, where there is one.
 fn crossing_rule_at(sections: &[Section], circuit: &Circuit, number: u32) -> Option<Rule>
     ensures { result
-        ≡ rule_at (crossing_rule (circuits sections.now) circuit.now) (slice_get circuit.now.nets number) }
+        ≡ rule_at (crossing_rule (circuits sections.now) circuit.now)
+        (slice_get circuit.now.nets number) }
 {
     match circuit.net(number) {
         Some(net) => crossing_rule(sections, circuit, net),

@@ -11,8 +11,8 @@ use scald_base::Stop;
 use std::alloc::Global;
 use timing_analysis::read_text;
 
-/// A section's circuit, and the version of the language that it is drawn in. A section that lists a case
-/// breaks a rule, whatever the case says.
+/// A section's circuit, and the version of the language that it is drawn in. A section that lists a
+/// case breaks a rule, whatever the case says.
 #[derive(Drop)]
 pub struct Section {
     pub version: u8,
@@ -21,8 +21,8 @@ pub struct Section {
 }
 
 /// The section that a text of fewer than 4,294,967,295 bytes draws; or `Refused`, where it draws no
-/// drawing, or that has no circuit; or `NoMemory`, where memory runs out. The place of a refusal counts
-/// from the first byte of this text.
+/// drawing, or that has no circuit; or `NoMemory`, where memory runs out. The place of a refusal
+/// counts from the first byte of this text.
 pub fn read_section(alloc: Global, text: &[u8]) -> Result<Section, Stop>
     requires { length text.now < 2 ^ 32 - 1 }
     ensures drawn { IfOk result (DrawsSection text.now) }

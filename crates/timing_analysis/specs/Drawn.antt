@@ -19,8 +19,8 @@ pub record Draws (text : List ℕ) (d : Drawing) (c : Circuit) : Type 0 where
   pub circuit : IsCircuitOf d c
   pub is_circuit : IsCircuit c
 
--- Why nothing of the text is evaluated: it draws no drawing; or that is refused in expansion, or by a
--- rule of circuits; or its cases are refused.
+-- Why nothing of the text is evaluated: it draws no drawing; or that is refused in expansion, or by
+-- a rule of circuits; or its cases are refused.
 pub data IsTextRefused (text : List ℕ) (r : Refusal) : Type 0 where
   undrawn : IsRefusal text r → IsTextRefused text r
   unexpanded : (d : Drawing) → TextDraws text d → IsStopOf d (Refused r) → IsTextRefused text r

@@ -1,4 +1,5 @@
--- What is evaluated: a circuit, its cases, the classes in which its nets are evaluated, and its reach.
+-- What is evaluated: a circuit, its cases, the classes in which its nets are evaluated, and its
+-- reach.
 use Rattle.std.specs.Prelude.{◌≡◌, ◌≤◌, length}
 use Rattle.std.specs.List.{All}
 use Rattle.fixpoint_engine.specs.NetClasses.{AreClasses}
@@ -6,8 +7,8 @@ use Rattle.fixpoint_engine.specs.Reach.{reach}
 use Rattle.case_analysis.specs.Case.{NetsExist}
 use Rattle.timing_analysis.specs.declared.subject.Subject.{Subject}
 
--- Its cases are few, their nets exist, its classes are stable, and its reach is that of the circuit, which is at
--- most twice the longest delay and one more.
+-- Its cases are few, their nets exist, its classes are stable, and its reach is that of the
+-- circuit, which is at most twice the longest delay and one more.
 pub record IsSubject (s : Subject) : Type 0 where
   pub few : length s.cases ≤ 256
   pub exist : All (NetsExist s.circuit) s.cases

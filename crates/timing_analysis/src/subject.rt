@@ -12,7 +12,8 @@ use flat_circuit::{CaseList, Circuit};
 use scald_base::NoMemory;
 use std::alloc::Global;
 
-/// A circuit and the cases in which it is evaluated, with what is found out of it once for all of them.
+/// A circuit and the cases in which it is evaluated, with what is found out of it once for all of
+/// them.
 #[derive(Drop)]
 pub struct Subject {
     pub circuit: Circuit,

@@ -37,8 +37,8 @@ IsOneDelayForm (Register forced) pick = pick.0 ≡ pick.1
 IsOneDelayForm (Enabled forced) pick = pick.0 ≡ pick.1
 IsOneDelayForm (Checker check) pick = ⊤
 
--- Where there are not two delays, both numbers are the one. A change function and a checker have none, whatever is
--- picked.
+-- Where there are not two delays, both numbers are the one. A change function and a checker have
+-- none, whatever is picked.
 abbrev pub IsOneDelay : Kind → Option Split → ℕ × ℕ → Type 0
 IsOneDelay kind None pick = IsOneDelayForm (form_of kind) pick
 IsOneDelay kind (Some s) pick = ⊤
@@ -53,15 +53,16 @@ pub record PickFits (c : Circuit) (i : Instance) (pick : ℕ × ℕ) (wires : Li
 abbrev pub PickFitsAt : Circuit → Choice → ℕ → Type 0
 PickFitsAt c choice k =
     (i : Instance) (pick : ℕ × ℕ) (wires : List ℕ) → slice_get c.instances k ≡ Some i →
-    slice_get choice.delays k ≡ Some pick → slice_get choice.wires k ≡ Some wires → PickFits c i pick wires
+    slice_get choice.delays k ≡ Some pick → slice_get choice.wires k ≡ Some wires →
+    PickFits c i pick wires
 
 -- a bit for each net and each tick
 pub record AreTraces (nets ticks : ℕ) (bits : Bits) : Type 0 where
   pub rows : length bits ≡ nets
   pub long : All (λ (row : List Bool). length row ≡ ticks) bits
 
--- There is a pick of delays for each instance and of a wire's delay for each of its pins, and there are bits of each
--- net.
+-- There is a pick of delays for each instance and of a wire's delay for each of its pins, and there
+-- are bits of each net.
 pub record ChoiceFits (c : Circuit) (choice : Choice) (ticks : ℕ) : Type 0 where
   pub delays : length choice.delays ≡ length c.instances
   pub wires : length choice.wires ≡ length c.instances

@@ -22,21 +22,28 @@ MayRest (Stable spans) = ⊤
 -- no clock has a value in the case
 abbrev pub SetsNoClock : Circuit → List CaseValue → Type 0
 SetsNoClock c values =
-    (i : ℕ) (net : Net) (one : Bool) → slice_get c.nets i ≡ Some net → value_in values i ≡ Some one → MayRest net.spec
+    (i : ℕ) (net : Net) (one : Bool) → slice_get c.nets i ≡ Some net →
+    value_in values i ≡ Some one → MayRest net.spec
 
 -- each net that nothing drives keeps its assertion
 abbrev pub InputsMeet : Type 0
-InputsMeet = (c : Circuit) (values : List CaseValue) (ticks seed : ℕ) (choice : Choice) → IsCircuit c →
-    IsHeader c.header → SetsNoClock c values → IsDrawn c values ticks seed choice → (i : ℕ) (net : Net) →
-    slice_get c.nets i ≡ Some net → net.driver ≡ None → Meets c.header net.spec ticks (bit_of choice.inputs i)
+InputsMeet = (c : Circuit) (values : List CaseValue) (ticks seed : ℕ) (choice : Choice) →
+    IsCircuit c →
+    IsHeader c.header → SetsNoClock c values → IsDrawn c values ticks seed choice →
+    (i : ℕ) (net : Net) →
+    slice_get c.nets i ≡ Some net → net.driver ≡ None →
+    Meets c.header net.spec ticks (bit_of choice.inputs i)
 
 -- each net of the case is constant, at its value
 abbrev pub CasesHold : Type 0
-CasesHold = (c : Circuit) (values : List CaseValue) (ticks seed : ℕ) (choice : Choice) → IsCircuit c →
-    IsDrawn c values ticks seed choice → (i t : ℕ) (net : Net) (one : Bool) → slice_get c.nets i ≡ Some net →
+CasesHold = (c : Circuit) (values : List CaseValue) (ticks seed : ℕ) (choice : Choice) →
+    IsCircuit c →
+    IsDrawn c values ticks seed choice → (i t : ℕ) (net : Net) (one : Bool) →
+    slice_get c.nets i ≡ Some net →
     value_in values i ≡ Some one → t < ticks → bit_of choice.inputs i t ≡ one
 
 -- a seed draws one choice in a case
 abbrev pub OneDrawn : Type 0
-OneDrawn = (c : Circuit) (values : List CaseValue) (ticks seed : ℕ) (choice other : Choice) → IsCircuit c →
+OneDrawn = (c : Circuit) (values : List CaseValue) (ticks seed : ℕ) (choice other : Choice) →
+    IsCircuit c →
     IsDrawn c values ticks seed choice → IsDrawn c values ticks seed other → choice ≡ other

@@ -35,7 +35,8 @@ wires_of pick = pick.1
 abbrev pub draw_one : Bounds → Draw (ℕ × ℕ)
 draw_one d s = let one = draw_from d.min d.max s in ((one.0, one.0), one.1)
 
--- By the form of a kind. A change function and a checker have no delay, and no word is taken for it.
+-- By the form of a kind. A change function and a checker have no delay, and no word is taken for
+-- it.
 abbrev pub draw_delay : Form → Bounds → Draw (ℕ × ℕ)
 draw_delay Gate d s = draw_one d s
 draw_delay Change d s = ((0, 0), s)
@@ -63,16 +64,18 @@ draw_pick nets i s =
     ((delays.0, wires.0), wires.1)
 
 -- picks of the first so many instances that are within the bounds
-pub record ArePicks (c : Circuit) (count : ℕ) (delays : List (ℕ × ℕ)) (wires : List (List ℕ)) : Type 0 where
+pub record ArePicks (c : Circuit) (count : ℕ) (delays : List (ℕ × ℕ))
+    (wires : List (List ℕ)) : Type 0 where
   pub each_delays : length delays ≡ count
   pub each_wires : length wires ≡ count
-  pub fit : (k : ℕ) (i : Instance) (pick : ℕ × ℕ) (row : List ℕ) → slice_get c.instances k ≡ Some i →
+  pub fit : (k : ℕ) (i : Instance) (pick : ℕ × ℕ) (row : List ℕ) →
+      slice_get c.instances k ≡ Some i →
       slice_get delays k ≡ Some pick → slice_get wires k ≡ Some row → PickFits c i pick row
 
 -- ---- offsets
 
--- How much later a clock comes than its earliest: its offset from -a to b, and a. Only a `.P` clock takes
--- a word.
+-- How much later a clock comes than its earliest: its offset from -a to b, and a. Only a `.P` clock
+-- takes a word.
 abbrev pub draw_shift : Header → AssertSpec → Draw ℕ
 draw_shift h Unasserted s = (0, s)
 draw_shift h (Precision c) s = draw_from 0 ((skew_of c h.pskew).0 + (skew_of c h.pskew).1) s
@@ -86,8 +89,8 @@ draw_offset h (Some net) s = if is_none net.driver then draw_shift h net.spec s 
 
 -- ---- all of it
 
--- The picks at each instance; and for each net in name order how much later it comes, and a free bit
--- for each tick.
+-- The picks at each instance; and for each net in name order how much later it comes, and a free
+-- bit for each tick.
 pub record Drawn : Type 0 where
   pub picks : List Pick
   pub shifts : List ℕ

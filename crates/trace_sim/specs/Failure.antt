@@ -17,11 +17,15 @@ pub record FailsAt (c : Circuit) (run : Run) (k t : ℕ) : Type 0 where
   pub instance_is : slice_get c.instances k ≡ Some instance
   pub choice_is : slice_get run.choices k ≡ Some choice
   pub within : t < run.ticks
-  pub asked : IsAskedWith instance.kind instance.delay (two_delays instance.kind instance.split) choice t
-  pub fails : EquationWith instance.kind instance.delay (two_delays instance.kind instance.split) choice
-      (pin_signals run instance.pins choice.wires) (out_signal run instance.out instance.out_inverted) t → ⊥
+  pub asked : IsAskedWith instance.kind instance.delay
+      (two_delays instance.kind instance.split) choice t
+  pub fails : EquationWith instance.kind instance.delay
+      (two_delays instance.kind instance.split) choice
+      (pin_signals run instance.pins choice.wires)
+      (out_signal run instance.out instance.out_inverted) t → ⊥
 
--- The first tick at which an equation does not hold, and there the first instance, which drives this net.
+-- The first tick at which an equation does not hold, and there the first instance, which drives
+-- this net.
 pub record FailsFirst (c : Circuit) (run : Run) (t net : ℕ) : Type 0 where
   pub number : ℕ
   pub at : FailsAt c run number t
@@ -34,7 +38,8 @@ abbrev pub EachObeys : Circuit → Run → Type 0
 EachObeys c run =
     (k : ℕ) (i : Instance) (choice : Chosen) → slice_get c.instances k ≡ Some i →
     slice_get run.choices k ≡ Some choice →
-    Obeys run.ticks i.kind i.delay (two_delays i.kind i.split) choice (pin_signals run i.pins choice.wires)
+    Obeys run.ticks i.kind i.delay (two_delays i.kind i.split) choice
+    (pin_signals run i.pins choice.wires)
     (out_signal run i.out i.out_inverted)
 
 -- ---- the same by the bit that an equation fixes
@@ -57,7 +62,8 @@ failing_net run i choice t =
 -- the output of instance k is not other at the tick than its equation says
 abbrev pub IsFine : Circuit → List Chosen → Bits → ℕ → ℕ → Type 0
 IsFine c choices bits t k =
-    (i : Instance) (at : Chosen) → slice_get c.instances k ≡ Some i → slice_get choices k ≡ Some at →
+    (i : Instance) (at : Chosen) → slice_get c.instances k ≡ Some i →
+    slice_get choices k ≡ Some at →
     failing_net (seen bits) i at t ≡ None
 
 -- that of no instance is, of the first so many

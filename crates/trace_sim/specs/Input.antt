@@ -29,7 +29,8 @@ slot_of h t = back (period h) t 0
 -- free, but in quiet slots as it was a tick before
 abbrev pub held : Header → List Span → Signal → Signal
 held h spans free zero = free 0
-held h spans free (suc t) = if quiet spans h (slot_of h (suc t)) then held h spans free t else free (suc t)
+held h spans free (suc t) =
+    if quiet spans h (slot_of h (suc t)) then held h spans free t else free (suc t)
 
 -- the ideal clock steps to this bit at a slot
 abbrev pub is_edge : ClockSpec → Header → Bool → ℕ → Bool
@@ -39,7 +40,8 @@ is_edge c h false slot = ideal c h (back (period h) slot 1) && not (ideal c h sl
 -- the slot is in the region of an edge to this bit
 abbrev pub is_near : ClockSpec → Header → ℕ × ℕ → Bool → ℕ → Bool
 is_near c h skew to slot =
-    list_any (λ by. is_edge c h to (back (period h) (slot + skew.0) by)) (range_with_len 0 (skew.0 + skew.1 + 1))
+    list_any (λ by. is_edge c h to (back (period h) (slot + skew.0) by))
+    (range_with_len 0 (skew.0 + skew.1 + 1))
 
 -- and the last of it
 abbrev pub is_last : ClockSpec → Header → ℕ × ℕ → Bool → ℕ → Bool
@@ -55,7 +57,8 @@ moved c h skew free zero =
     else ideal c h 0
 moved c h skew free (suc t) =
     let slot = slot_of h (suc t) in
-    if is_near c h skew true slot then moved c h skew free t || (is_last c h skew true slot || free (suc t))
+    if is_near c h skew true slot then moved c h skew free t
+    || (is_last c h skew true slot || free (suc t))
     else if is_near c h skew false slot
     then moved c h skew free t && (not (is_last c h skew false slot) && free (suc t))
     else ideal c h slot
@@ -78,7 +81,8 @@ asserted h (Stable spans) by free = held h spans free
 abbrev pub given_in : Header → Option Bool → Option Net → ℕ → Signal → Signal
 given_in h value None by free = free
 given_in h (Some one) (Some net) by free = λ t. one
-given_in h None (Some net) by free = if is_some net.driver then free else asserted h net.spec by free
+given_in h None (Some net) by free =
+    if is_some net.driver then free else asserted h net.spec by free
 
 -- the bits of a row
 abbrev pub bits_in : List Bool → Signal
@@ -92,7 +96,8 @@ given_at c values shifts free place =
     (bits_in (slice_index_or free place []))
 
 abbrev pub given_row : Circuit → List CaseValue → ℕ → List ℕ → Bits → ℕ → List Bool
-given_row c values ticks shifts free place = map (given_at c values shifts free place) (range_with_len 0 ticks)
+given_row c values ticks shifts free place =
+    map (given_at c values shifts free place) (range_with_len 0 ticks)
 
 -- The rows are what is given of each net.
 pub record AreGiven (c : Circuit) (values : List CaseValue) (ticks : ℕ) (shifts : List ℕ)
@@ -102,7 +107,8 @@ pub record AreGiven (c : Circuit) (values : List CaseValue) (ticks : ℕ) (shift
       slice_get rows (net_at c.order place) ≡ Some (given_row c values ticks shifts free place)
 
 -- The choice of the run that a seed draws in a case.
-pub record IsDrawn (c : Circuit) (values : List CaseValue) (ticks seed : ℕ) (choice : Choice) : Type 0 where
+pub record IsDrawn (c : Circuit) (values : List CaseValue) (ticks seed : ℕ)
+    (choice : Choice) : Type 0 where
   pub delays : choice.delays ≡ map delays_of (draw_run c ticks (seeded seed)).0.picks
   pub wires : choice.wires ≡ map wires_of (draw_run c ticks (seeded seed)).0.picks
   pub inputs : let drawn = (draw_run c ticks (seeded seed)).0 in

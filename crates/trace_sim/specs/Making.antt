@@ -1,5 +1,5 @@
--- How the bits of a run are made: tick by tick, and within a tick instance by instance, in an order of
--- evaluation.
+-- How the bits of a run are made: tick by tick, and within a tick instance by instance, in an order
+-- of evaluation.
 use Rattle.std.specs.Prelude.{◌≡◌, ℕ, zero, suc, ◌+◌, ◌-◌, min, max, Bool, true, false, ◌&&◌, nat_le, nat_lt, if◌then◌else◌, ◌⊎◌, List, [], ◌∷◌, length, map, slice_get, slice_set, slice_index_or, Option, Some, None, is_some}
 use Rattle.std.specs.List.{list_all, range_with_len}
 use Rattle.scald_base.specs.Time.{Bounds}
@@ -22,7 +22,8 @@ use Rattle.trace_sim.specs.Simulated.{run_of}
 
 -- ---- what is looked at
 
--- how many ticks before a tick an instance looks at its pins, at the latest; a gate with one delay has it twice
+-- how many ticks before a tick an instance looks at its pins, at the latest; a gate with one delay
+-- has it twice
 abbrev pub near_in : Form → Bounds → Chosen → ℕ
 near_in Gate bounds choice = min choice.rise choice.fall
 near_in Change bounds choice = bounds.min
@@ -42,7 +43,8 @@ far_in (Checker check) bounds choice = choice.delay
 abbrev pub named_in : Form → Bounds → Chosen → List ℕ
 named_in Gate bounds choice = pins_before (max choice.rise choice.fall) choice.wires
 named_in Change bounds choice = named_by Change bounds choice.delay choice.wires
-named_in (Register forced) bounds choice = named_by (Register forced) bounds choice.delay choice.wires
+named_in (Register forced) bounds choice =
+    named_by (Register forced) bounds choice.delay choice.wires
 named_in (Enabled forced) bounds choice = named_by (Enabled forced) bounds choice.delay choice.wires
 named_in (Checker check) bounds choice = named_by (Checker check) bounds choice.delay choice.wires
 
@@ -69,11 +71,12 @@ held_through test near far t = nat_lt far (in_a_row test (t + 1 - near) + near)
 abbrev pub stays_at : ℕ → Signal → Bool
 stays_at u x = if x (u - 1) then x u else if x u then false else true
 
--- What a gate and a change function wait for: a gate whose rise takes at least as long, that its bit is 1; one whose
--- fall takes longer, that it is 0; a change function, that no pin steps.
+-- What a gate and a change function wait for: a gate whose rise takes at least as long, that its
+-- bit is 1; one whose fall takes longer, that it is 0; a change function, that no pin steps.
 abbrev pub passes : Form → Kind → Chosen → List Signal → ℕ → Bool
 passes Gate kind choice signals u =
-    are_shown 0 choice.wires u && turned (nat_lt choice.rise choice.fall) (gate_signal kind signals u)
+    are_shown 0 choice.wires u && turned (nat_lt choice.rise choice.fall)
+    (gate_signal kind signals u)
 passes Change kind choice signals u = are_shown 1 choice.wires u && list_all (stays_at u) signals
 passes (Register forced) kind choice signals u = false
 passes (Enabled forced) kind choice signals u = false
@@ -82,7 +85,8 @@ passes (Checker check) kind choice signals u = false
 -- by the form of a kind
 abbrev pub row_by : Form → Run → Instance → Chosen → ℕ → ℕ
 row_by form run i choice t =
-    in_a_row (passes form i.kind choice (pin_signals run i.pins choice.wires)) (t - near_in form i.delay choice)
+    in_a_row (passes form i.kind choice (pin_signals run i.pins choice.wires))
+    (t - near_in form i.delay choice)
 
 -- how many ticks in a row pass at an instance, of those that it looks at before tick t
 abbrev pub row_in : Run → Instance → Chosen → ℕ → ℕ
@@ -102,14 +106,16 @@ abbrev pub stored : Bool → List Signal → ℕ → Bool → Option Bool
 stored false signals s bit = Some bit
 stored true signals s bit = forced_by (nth_signal signals 2 s) (nth_signal signals 3 s) bit
 
--- The output at a tick, by what the pins show and by the output a tick before. None where any bit will do: of a change
--- function that may change, where set and reset are both 1, and of a checker.
+-- The output at a tick, by what the pins show and by the output a tick before. None where any bit
+-- will do: of a change function that may change, where set and reset are both 1, and of a checker.
 abbrev pub fixed : Form → Kind → Bounds → Chosen → List Signal → Bool → ℕ → Option Bool
 fixed Gate kind bounds choice signals old t =
     Some (turned (nat_lt choice.rise choice.fall)
-    (held_through (passes Gate kind choice signals) (min choice.rise choice.fall) (max choice.rise choice.fall) t))
+    (held_through (passes Gate kind choice signals) (min choice.rise choice.fall)
+    (max choice.rise choice.fall) t))
 fixed Change kind bounds choice signals old t =
-    if held_through (passes Change kind choice signals) bounds.min bounds.max t then Some old else None
+    if held_through (passes Change kind choice signals) bounds.min bounds.max t then Some old
+    else None
 fixed (Register forced) kind bounds choice signals old t =
     stored forced signals (t - choice.delay) (registered signals (t - choice.delay) old)
 fixed (Enabled forced) kind bounds choice signals old t =
@@ -130,7 +136,8 @@ fixed_in run i choice t =
 abbrev pub put : Bits → ℕ → ℕ → Bool → Bits
 put bits n t bit = slice_set bits n (slice_set (slice_index_or bits n []) t bit)
 
--- an output is written where it drives a net and its bit is fixed; else the free bit that stands there is left
+-- an output is written where it drives a net and its bit is fixed; else the free bit that stands
+-- there is left
 abbrev pub written : Bits → Option Target → Bool → ℕ → Option Bool → Bits
 written bits (Some (OnNet n)) inverted t (Some bit) = put bits n t (turned inverted bit)
 written bits out inverted t bit = bits
@@ -148,12 +155,14 @@ evaluated c ticks choices t k bits =
 -- after these instances were, one after another
 abbrev pub pass : Circuit → ℕ → List Chosen → ℕ → List ℕ → Bits → Bits
 pass c ticks choices t [] bits = bits
-pass c ticks choices t (k ∷ ks) bits = pass c ticks choices t ks (evaluated c ticks choices t k bits)
+pass c ticks choices t (k ∷ ks) bits =
+    pass c ticks choices t ks (evaluated c ticks choices t k bits)
 
 -- after so many ticks
 abbrev pub made : Circuit → ℕ → List Chosen → List ℕ → ℕ → Bits → Bits
 made c ticks choices order zero bits = bits
-made c ticks choices order (suc t) bits = pass c ticks choices t order (made c ticks choices order t bits)
+made c ticks choices order (suc t) bits =
+    pass c ticks choices t order (made c ticks choices order t bits)
 
 -- ---- what the making begins with
 
@@ -176,7 +185,8 @@ seen bits = run_of 0 [] bits
 -- the count of each instance is that of the ticks in a row that it looks at before tick t
 abbrev pub AreRows : Circuit → List Chosen → Bits → List ℕ → ℕ → Type 0
 AreRows c choices bits rows t =
-    (k : ℕ) (i : Instance) (choice : Chosen) → slice_get c.instances k ≡ Some i → slice_get choices k ≡ Some choice →
+    (k : ℕ) (i : Instance) (choice : Chosen) → slice_get c.instances k ≡ Some i →
+    slice_get choices k ≡ Some choice →
     slice_index_or rows k 0 ≡ row_in (seen bits) i choice t
 
 -- some pin on the net, with a wire of no delay

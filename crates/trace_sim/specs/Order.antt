@@ -9,9 +9,9 @@ use Rattle.flat_circuit.specs.Instances.{out_at, pins_at, least_delay_at}
 use Rattle.flat_circuit.specs.Circuit.{Circuit, wire_at, driver_at}
 
 -- Instance k may read at once what d drives: k may have no delay, nor need the wire have one.
--- Nothing is asked of d's own delay: whatever it is, d's bit at a tick has to be made before k reads
--- it. So this is not `PassesOn`, which asks it of d and not of k; but round a loop each is a reader,
--- and there the two agree.
+-- Nothing is asked of d's own delay: whatever it is, d's bit at a tick has to be made before k
+-- reads it. So this is not `PassesOn`, which asks it of d and not of k; but round a loop each is a
+-- reader, and there the two agree.
 pub record ReadsAtOnce (c : Circuit) (d k : ℕ) : Type 0 where
   pub net : ℕ
   pub drives : out_at c.instances d ≡ Some (OnNet net)
@@ -22,8 +22,8 @@ pub record ReadsAtOnce (c : Circuit) (d k : ℕ) : Type 0 where
   pub reads : Contains (pins_at c.instances k) pin
   pub on_net : pin.target ≡ OnNet net
 
--- All instances, each once, and each after those that it may read at once. Since it goes by the least delays, it is
--- an order for every choice of delays within the bounds.
+-- All instances, each once, and each after those that it may read at once. Since it goes by the
+-- least delays, it is an order for every choice of delays within the bounds.
 pub record IsEvaluationOrder (c : Circuit) (order : List ℕ) : Type 0 where
   pub inside : All (λ k. k < length c.instances) order
   pub whole : (k : ℕ) → k < length c.instances → Contains order k

@@ -44,7 +44,8 @@ IsOpenForm (Register forced) bounds delay signals t = AreBoth forced signals (t 
 IsOpenForm (Enabled forced) bounds delay signals t = AreBoth forced signals (t - delay)
 IsOpenForm (Checker check) bounds delay signals t = ⊥
 
--- The equation of an instance says nothing of its output at a tick: it is not asked there, or it leaves the bit open.
+-- The equation of an instance says nothing of its output at a tick: it is not asked there, or it
+-- leaves the bit open.
 abbrev pub LeavesFree : Run → Instance → Chosen → ℕ → Type 0
 LeavesFree run i choice t =
     (IsAskedWith i.kind i.delay (two_delays i.kind i.split) choice t → ⊥)
@@ -52,11 +53,12 @@ LeavesFree run i choice t =
 
 -- ---- the run
 
--- The bits are those of a run with the delays that were picked. Nets that nothing drives have their inputs, and each
--- driven net has its free bit at each tick of which its equation says nothing.
+-- The bits are those of a run with the delays that were picked. Nets that nothing drives have their
+-- inputs, and each driven net has its free bit at each tick of which its equation says nothing.
 pub record IsSimulated (c : Circuit) (choice : Choice) (ticks : ℕ) (bits : Bits) : Type 0 where
   pub is_run : IsRun c (run_of ticks (choices_of choice) bits)
   pub inputs : (n t : ℕ) → driver_at c.nets n ≡ None → bit_of bits n t ≡ bit_of choice.inputs n t
   pub free : (k n t : ℕ) (i : Instance) (at : Chosen) → slice_get c.instances k ≡ Some i →
       slice_get (choices_of choice) k ≡ Some at → i.out ≡ Some (OnNet n) → t < ticks →
-      LeavesFree (run_of ticks (choices_of choice) bits) i at t → bit_of bits n t ≡ bit_of choice.free n t
+      LeavesFree (run_of ticks (choices_of choice) bits) i at t →
+      bit_of bits n t ≡ bit_of choice.free n t

@@ -30,7 +30,8 @@ pub(crate) fn is_asked(
 }
 
 fn is_register_asked(delay: u16, wires: &[u16], t: usize) -> bool
-    ensures { result ≡ are_there (named_by (Register false) (record { min = 0; max = 0 }) delay wires.now) t }
+    ensures { result
+        ≡ are_there (named_by (Register false) (record { min = 0; max = 0 }) delay wires.now) t }
 {
     1 <= t && delay as usize + 1 + first(wires) as usize <= t && are_shown(delay as usize, wires, t)
 }

@@ -6,8 +6,8 @@ ghost use Rattle.trace_sim.specs.Choice.{chosen, choices_of};
 use scald_base::List;
 use vector_names::Indices;
 
-/// For each instance its rise and its fall delay, in ticks; where it has one delay, both are that one.
-/// What stands at a change function or at a checker does not count.
+/// For each instance its rise and its fall delay, in ticks; where it has one delay, both are that
+/// one. What stands at a change function or at a checker does not count.
 pub type DelayPicks = List<(u16, u16)>;
 
 /// For each instance the delay of the wire to each of its pins, in ticks: 0 on a constant.

@@ -38,7 +38,8 @@ fn failing(
     requires short { t < 2 ^ 16 }
     requires row { (i : Element) (at : Chosen) → slice_get c.now.instances k ≡ Some i →
         slice_get (choices_of choice.now) k ≡ Some at → row ≡ row_in (seen bits.now) i at t }
-    ensures { IfOk result (λ net. (i : Element) (at : Chosen) → slice_get c.now.instances k ≡ Some i →
+    ensures { IfOk result (λ net. (i : Element) (at : Chosen) →
+        slice_get c.now.instances k ≡ Some i →
         slice_get (choices_of choice.now) k ≡ Some at → net ≡ failing_net (seen bits.now) i at t) }
 {
     match c.instance(k) {
@@ -89,9 +90,10 @@ fn first_at(
     Ok(None)
 }
 
-/// The first tick at which the equation of an instance does not hold, and the net that the first such
-/// instance drives; `None` exactly where all equations hold wherever they are required. Of the choice
-/// the delays count alone, which fit; the bits are any. Takes a time linear in pins times ticks.
+/// The first tick at which the equation of an instance does not hold, and the net that the first
+/// such instance drives; `None` exactly where all equations hold wherever they are required. Of the
+/// choice the delays count alone, which fit; the bits are any. Takes a time linear in pins times
+/// ticks.
 pub fn first_failure(
     alloc: Global,
     c: &Circuit,

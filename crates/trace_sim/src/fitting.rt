@@ -10,10 +10,11 @@ use element_kinds::{Form, Kind};
 use flat_circuit::{Circuit, Instance, Pin, Split, Target};
 use scald_base::Delay;
 
-/// Whether a choice has what `simulate` asks of it: delays within their bounds for each instance and
-/// each pin, and a bit of each net for each tick. It needs no allocation.
+/// Whether a choice has what `simulate` asks of it: delays within their bounds for each instance
+/// and each pin, and a bit of each net for each tick. It needs no allocation.
 pub fn choice_fits(c: &Circuit, choice: &Choice, ticks: u16) -> bool
-    ensures { MatchBool result (ChoiceFits c.now choice.now ticks) (¬ (ChoiceFits c.now choice.now ticks)) }
+    ensures { MatchBool result (ChoiceFits c.now choice.now ticks)
+        (¬ (ChoiceFits c.now choice.now ticks)) }
 {
     let instances = c.instance_count() as usize;
     choice.delays.len() == instances
@@ -51,11 +52,12 @@ fn fits_at(c: &Circuit, choice: &Choice, k: u32) -> bool
     }
 }
 
-/// Whether the delays that are picked at an instance are within its bounds, and those of the wires to
-/// its pins within the bounds of their nets, 0 on a constant. Both picks are one where the instance has
-/// one delay.
+/// Whether the delays that are picked at an instance are within its bounds, and those of the wires
+/// to its pins within the bounds of their nets, 0 on a constant. Both picks are one where the
+/// instance has one delay.
 pub fn pick_fits(c: &Circuit, i: &Instance, pick: (u16, u16), wires: &[u16]) -> bool
-    ensures { MatchBool result (PickFits c.now i.now pick wires.now) (¬ (PickFits c.now i.now pick wires.now)) }
+    ensures { MatchBool result (PickFits c.now i.now pick wires.now)
+        (¬ (PickFits c.now i.now pick wires.now)) }
 {
     delays_fit(i.kind, i.delay, two_delays(i.kind, i.split), pick)
         && wires_fit(c, i.pins.as_slice(), wires)
@@ -74,7 +76,8 @@ fn is_within(bounds: Delay, ticks: u16) -> bool
 }
 
 fn is_one_within(bounds: Delay, pick: (u16, u16)) -> bool
-    ensures { MatchBool result (Within bounds pick.0 × (pick.0 ≡ pick.1)) (¬ (Within bounds pick.0 × (pick.0 ≡ pick.1))) }
+    ensures { MatchBool result (Within bounds pick.0 × (pick.0 ≡ pick.1))
+        (¬ (Within bounds pick.0 × (pick.0 ≡ pick.1))) }
 {
     is_within(bounds, pick.0) && pick.0 == pick.1
 }
@@ -97,7 +100,8 @@ fn delays_fit(kind: Kind, bounds: Delay, split: Option<Split>, pick: (u16, u16))
 }
 
 fn wire_fits(c: &Circuit, target: Target, wire: u16) -> bool
-    ensures { MatchBool result (WireFits c.now.nets target wire) (¬ (WireFits c.now.nets target wire)) }
+    ensures { MatchBool result (WireFits c.now.nets target wire)
+        (¬ (WireFits c.now.nets target wire)) }
 {
     match target {
         Target::Constant(_) => wire == 0,
@@ -109,7 +113,8 @@ fn wire_fits(c: &Circuit, target: Target, wire: u16) -> bool
 }
 
 fn wires_fit(c: &Circuit, pins: &[Pin], wires: &[u16]) -> bool
-    ensures { MatchBool result (WiresFit c.now.nets pins.now wires.now) (¬ (WiresFit c.now.nets pins.now wires.now)) }
+    ensures { MatchBool result (WiresFit c.now.nets pins.now wires.now)
+        (¬ (WiresFit c.now.nets pins.now wires.now)) }
 {
     if pins.len() != wires.len() {
         return false;

@@ -26,7 +26,8 @@ fn draw_shift<R: Rng>(rng: &mut R, h: &Header, spec: &AssertSpec) -> u32
 }
 
 fn draw_offset<R: Rng>(rng: &mut R, c: &Circuit, net: u32) -> u32
-    ensures { (result, R.stream rng.new) ≡ draw_offset c.now.header (slice_get c.now.nets net) (R.stream rng.old) }
+    ensures { (result, R.stream rng.new)
+        ≡ draw_offset c.now.header (slice_get c.now.nets net) (R.stream rng.old) }
 {
     match c.net(net) {
         None => 0,
@@ -44,7 +45,8 @@ pub(crate) fn draw_offsets<R: Rng>(
     c: &Circuit,
 ) -> Result<List<u32>, NoMemory>
     ensures { IfOk result (λ shifts. (shifts, R.stream rng.new)
-        ≡ draw_each (λ (n : ℕ). draw_offset c.now.header (slice_get c.now.nets n)) c.now.order (R.stream rng.old)) }
+        ≡ draw_each (λ (n : ℕ). draw_offset c.now.header (slice_get c.now.nets n)) c.now.order
+        (R.stream rng.old)) }
 {
     c.known();
     let mut shifts = List::new(alloc);

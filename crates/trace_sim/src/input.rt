@@ -1,5 +1,5 @@
-//! The bits of a net, tick by tick: what its case or its assertion makes of the free bits, and these
-//! themselves where something drives it.
+//! The bits of a net, tick by tick: what its case or its assertion makes of the free bits, and
+//! these themselves where something drives it.
 
 ghost use Rattle.std.specs.Prelude.{◌≡◌, ◌-◌, ◌<◌, ◌≤◌, ◌^◌, ◌&&◌, ◌||◌, [], IfOk, Some, map, not};
 ghost use Rattle.std.specs.List.{range_with_len};
@@ -197,7 +197,8 @@ fn given_bit(
     before: bool,
 ) -> bool
     requires short { t < 2 ^ 16 }
-    requires before { 1 ≤ t → before ≡ given_in h.now value (Some net.now) by (bits_in free.now) (t - 1) }
+    requires before { 1 ≤ t → before
+        ≡ given_in h.now value (Some net.now) by (bits_in free.now) (t - 1) }
     ensures { result ≡ given_in h.now value (Some net.now) by (bits_in free.now) t }
 {
     match value {
@@ -220,7 +221,8 @@ pub(crate) fn given_row(
     ticks: u16,
 ) -> Result<Levels, NoMemory>
     ensures { IfOk result (λ row. row
-        ≡ map (given_in h.now value (Some net.now) by (bits_in free.now)) (range_with_len 0 ticks)) }
+        ≡ map (given_in h.now value (Some net.now) by (bits_in free.now))
+        (range_with_len 0 ticks)) }
 {
     let mut row = Levels::new(alloc);
     let mut before = false;

@@ -2,8 +2,8 @@
 
 ghost use Rattle.trace_sim.specs.Laws.{ChoicesHaveOneRun, RunsExist};
 
-/// Each circuit has a run for each number of ticks and each choice of delays within their bounds, of
-/// inputs and of a start.
+/// Each circuit has a run for each number of ticks and each choice of delays within their bounds,
+/// of inputs and of a start.
 pub fn runs_exist()
     ensures { RunsExist }
 {}

@@ -73,7 +73,8 @@ pub(crate) fn pin_bits(
     wires: &[u16],
     t: usize,
 ) -> Result<Vec<bool>, NoMemory>
-    ensures { IfOk result (λ shown. shown.items ≡ bits_at (pin_signals (seen bits.now) pins.now wires.now) t) }
+    ensures { IfOk result (λ shown. shown.items
+        ≡ bits_at (pin_signals (seen bits.now) pins.now wires.now) t) }
 {
     let mut shown = Vec::new(alloc);
     let mut place = 0;

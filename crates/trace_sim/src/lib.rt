@@ -2,11 +2,11 @@
 //!
 //! The layer above calls [`simulate`], which makes the run of a `Choice`: delays, wires' delays,
 //! inputs and free bits. [`draw`] draws a choice by the words of a generator, [`choice_fits`] tells
-//! whether a choice has what `simulate` asks of it, [`first_failure`] judges bits that anyone wrote,
-//! and [`nth_pin`] reads what a pin shows of them. `specs/Choice` says which choices a circuit has,
-//! `specs/Simulated` where the bits of their runs come from, `specs/Drawn` and `specs/Input` what a
-//! seed draws, and `specs/Failure` what is no run. [`laws`] has that each choice has one run, and
-//! [`draw_laws`] that inputs that are drawn keep their assertions.
+//! whether a choice has what `simulate` asks of it, [`first_failure`] judges bits that anyone
+//! wrote, and [`nth_pin`] reads what a pin shows of them. `specs/Choice` says which choices a
+//! circuit has, `specs/Simulated` where the bits of their runs come from, `specs/Drawn` and
+//! `specs/Input` what a seed draws, and `specs/Failure` what is no run. [`laws`] has that each
+//! choice has one run, and [`draw_laws`] that inputs that are drawn keep their assertions.
 //!
 //! Within a tick an instance without delay reads what others drive at that very tick, so `order`
 //! finds one order of the instances for every choice of delays (`specs/Order`).

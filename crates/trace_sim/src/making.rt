@@ -18,9 +18,9 @@ use flat_circuit::{Circuit, Instance, Pin, Target};
 use scald_base::{List, NoMemory};
 use std::alloc::Global;
 
-/// The run of this choice: with these delays, these inputs, and the free bits where no equation fixes
-/// a bit. The choice fits the circuit: there are delays within their bounds for each instance and each
-/// pin, and a bit for each net and tick. Takes a time linear in pins times ticks.
+/// The run of this choice: with these delays, these inputs, and the free bits where no equation
+/// fixes a bit. The choice fits the circuit: there are delays within their bounds for each instance
+/// and each pin, and a bit for each net and tick. Takes a time linear in pins times ticks.
 pub fn simulate(alloc: Global, c: &Circuit, choice: &Choice, ticks: u16) -> Result<Traces, NoMemory>
     requires { ChoiceFits c.now choice.now ticks }
     ensures { IfOk result (λ traces. IsSimulated c.now choice.now ticks traces) }
@@ -166,7 +166,8 @@ pub(crate) fn fixed_bit(
 ) -> Result<Option<bool>, NoMemory>
     requires short { t < 2 ^ 16 }
     requires row { row ≡ row_in (seen bits.now) i.now (chosen delays wires.now) t }
-    ensures { IfOk result (λ bit. bit ≡ fixed_in (seen bits.now) i.now (chosen delays wires.now) t) }
+    ensures { IfOk result (λ bit. bit
+        ≡ fixed_in (seen bits.now) i.now (chosen delays wires.now) t) }
 {
     let form = i.kind.form();
     if is_asked(form, i.delay, delays, wires, t) {

@@ -21,7 +21,8 @@ pub fn evaluation_order(alloc: Global, c: &Circuit) -> Result<Vec<usize>, NoMemo
 
 fn nodes(alloc: Global, c: &Circuit) -> Result<Vec<Node>, NoMemory>
     ensures { IfOk result (λ nodes.
-        map node_feeders nodes.items ≡ map (feeders_in c.now) (range_with_len 0 (length c.now.instances))) }
+        map node_feeders nodes.items ≡ map (feeders_in c.now)
+        (range_with_len 0 (length c.now.instances))) }
 {
     let mut nodes = Vec::new(alloc);
     for k in 0..c.instance_count() {

@@ -103,7 +103,8 @@ fn draw_pick<R: Rng>(
     i: &Instance,
 ) -> Result<((u16, u16), Indices), NoMemory>
     requires { All (PinExists (length c.now.nets)) i.now.pins }
-    ensures is { IfOk result (λ pick. (pick, R.stream rng.new) ≡ draw_pick c.now.nets i.now (R.stream rng.old)) }
+    ensures is { IfOk result (λ pick. (pick, R.stream rng.new)
+        ≡ draw_pick c.now.nets i.now (R.stream rng.old)) }
     ensures fits { IfOk result (λ pick. PickFits c.now i.now pick.0 pick.1) }
 {
     let delays = draw_delays(rng, i.kind, i.delay, two_delays(i.kind, i.split));

@@ -1,5 +1,6 @@
-//! Ticks in a row: for how long a gate's own bit was what it waits for, or no pin of a change function
-//! stepped. Kept from tick to tick, so a tick is looked at once however far back a delay reaches.
+//! Ticks in a row: for how long a gate's own bit was what it waits for, or no pin of a change
+//! function stepped. Kept from tick to tick, so a tick is looked at once however far back a delay
+//! reaches.
 
 ghost use Rattle.std.specs.Prelude.{◌≡◌, ℕ, ◌+◌, ◌-◌, ◌<◌, ◌^◌, List, length, IfOk, OnOk, Some, slice_get};
 ghost use Rattle.flat_circuit.specs.declared.instance.Instance.{Instance as Element};
@@ -55,7 +56,8 @@ fn passes(
     bits: &[Levels],
 ) -> Result<bool, NoMemory>
     ensures { IfOk result (λ bit. bit
-        ≡ passes_at form i.now.kind (chosen delays wires.now) (pin_signals (seen bits.now) i.now.pins wires.now) u) }
+        ≡ passes_at form i.now.kind (chosen delays wires.now)
+        (pin_signals (seen bits.now) i.now.pins wires.now) u) }
 {
     let pins = i.pins.as_slice();
     match form {
@@ -88,7 +90,8 @@ fn row_at(
 ) -> Result<usize, NoMemory>
     requires short { t < 2 ^ 16 }
     requires before { before ≡ row_by form (seen bits.now) i.now (chosen delays wires.now) t }
-    ensures { IfOk result (λ row. row ≡ row_by form (seen bits.now) i.now (chosen delays wires.now) (t + 1)) }
+    ensures { IfOk result (λ row. row
+        ≡ row_by form (seen bits.now) i.now (chosen delays wires.now) (t + 1)) }
 {
     let near = near(form, i.delay, delays) as usize;
     if t < near {
@@ -114,7 +117,8 @@ pub(crate) fn is_held(
     requires short { t < 2 ^ 16 }
     requires before { before ≡ row_by form (seen bits.now) i.now (chosen delays wires.now) t }
     ensures { IfOk result (λ held. let choice = chosen delays wires.now in held
-        ≡ held_through (passes_at form i.now.kind choice (pin_signals (seen bits.now) i.now.pins wires.now))
+        ≡ held_through (passes_at form i.now.kind choice
+        (pin_signals (seen bits.now) i.now.pins wires.now))
         (near_in form i.now.delay choice) (far_in form i.now.delay choice) t) }
 {
     let row = row_at(alloc, form, i, delays, wires, t, before, bits)?;
@@ -136,7 +140,8 @@ fn counted(
     requires short { t < 2 ^ 16 }
     requires before { (i : Element) (at : Chosen) → slice_get c.now.instances k ≡ Some i →
         slice_get (choices_of choice.now) k ≡ Some at → before ≡ row_in (seen bits.now) i at t }
-    ensures { IfOk result (λ row. (i : Element) (at : Chosen) → slice_get c.now.instances k ≡ Some i →
+    ensures { IfOk result (λ row. (i : Element) (at : Chosen) →
+        slice_get c.now.instances k ≡ Some i →
         slice_get (choices_of choice.now) k ≡ Some at → row ≡ row_in (seen bits.now) i at (t + 1)) }
 {
     match c.instance(k) {

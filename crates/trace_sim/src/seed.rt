@@ -15,8 +15,8 @@ use rand_pcg::Lcg128Xsl64;
 use scald_base::NoMemory;
 use std::alloc::Global;
 
-/// The choice of the run of so many ticks that a seed draws: delays, the bits of the nets that nothing
-/// drives, and free bits. The nets of the case, which nothing drives, keep its values.
+/// The choice of the run of so many ticks that a seed draws: delays, the bits of the nets that
+/// nothing drives, and free bits. The nets of the case, which nothing drives, keep its values.
 pub fn draw(
     alloc: Global,
     c: &Circuit,

@@ -1,5 +1,5 @@
--- What `judge` replies to a text: whether a trace is a run of the circuit that the text draws, whether its
--- inputs keep their assertions, and what breaks in it first; or why that is not said.
+-- What `judge` replies to a text: whether a trace is a run of the circuit that the text draws,
+-- whether its inputs keep their assertions, and what breaks in it first; or why that is not said.
 use Rattle.std.specs.Prelude.{ℕ, List, [], ◌∷◌, ◌++◌, codes, decimal, Option, Some, None}
 use Rattle.scald_base.specs.declared.refusal.Refusal.{Refusal}
 use Rattle.flat_circuit.specs.declared.case.CaseValue.{CaseValue}
@@ -30,7 +30,8 @@ run_in trace = run_of trace.ticks (all_chosen trace.delays trace.wires) trace.bi
 -- ---- lines
 
 abbrev pub not_a_run_line : Circuit → ℕ → ℕ → List ℕ
-not_a_run_line c t net = line (codes "NOT A RUN TICK " ∷ decimal t ∷ codes " " ∷ net_text c net ∷ [])
+not_a_run_line c t net =
+    line (codes "NOT A RUN TICK " ∷ decimal t ∷ codes " " ∷ net_text c net ∷ [])
 
 abbrev pub run_line : List ℕ
 run_line = line (codes "RUN" ∷ [])
@@ -71,12 +72,14 @@ pub data Verdict (c : Circuit) (run : Run) (from : ℕ) : TraceOutcome → List 
   no_run : (t net : ℕ) → FailsFirst c run t net → Verdict c run from NotRun (not_a_run_line c t net)
   of_run : (stray : Option ℕ) (found : Option (Element × ℕ)) → IsRun c run → IsStray c run stray →
       IsBreak c run from found →
-      Verdict c run from (outcome_of found) (run_line ++ (inputs_line c stray ++ break_line c found))
+      Verdict c run from (outcome_of found) (run_line
+      ++ (inputs_line c stray ++ break_line c found))
 
 -- ---- the reply
 
 -- To the lines of a trace, and the circuit of the drawing that follows them.
-pub data JudgedOn (c : Circuit) (lines : List (List ℕ)) (from : ℕ) : TraceOutcome → List ℕ → Type 0 where
+pub data JudgedOn (c : Circuit) (lines : List (List ℕ)) (from : ℕ) : TraceOutcome → List ℕ →
+    Type 0 where
   wrong : (i : ℕ) → IsWrongLine c lines i → JudgedOn c lines from (BadTrace i) []
   judged : (trace : Trace) (o : TraceOutcome) (bytes : List ℕ) → IsReadAs c lines trace →
       Verdict c (run_in trace) from o bytes → JudgedOn c lines from o bytes
@@ -86,6 +89,8 @@ pub data Judged (from : ℕ) (text : List ℕ) : TraceOutcome → List ℕ → T
   no_end : HasNoTrace text → Judged from text (BadTrace 0) []
   refused : (lines : List (List ℕ)) (drawing : List ℕ) (r : Refusal) → HasTrace text lines drawing →
       IsTextRefused drawing r → Judged from text (Refused r) (refusal_line r)
-  on_circuit : (lines : List (List ℕ)) (drawing : List ℕ) (c : Circuit) (cases : List (List CaseValue))
-      (o : TraceOutcome) (bytes : List ℕ) → HasTrace text lines drawing → DrawsCircuit drawing c cases →
+  on_circuit : (lines : List (List ℕ)) (drawing : List ℕ) (c : Circuit)
+      (cases : List (List CaseValue))
+      (o : TraceOutcome) (bytes : List ℕ) → HasTrace text lines drawing →
+      DrawsCircuit drawing c cases →
       JudgedOn c lines from o bytes → Judged from text o bytes

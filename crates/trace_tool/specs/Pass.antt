@@ -71,9 +71,9 @@ last_step begin x t = last_such (steps begin x) t
 
 -- ---- an input about the edges of a clock
 
--- An input is to stay from a setup time before an edge up to a hold time after an edge: both edges are
--- one rise, or they are a rise and the fall that ends it. The second one comes at this tick; where was
--- the first?
+-- An input is to stay from a setup time before an edge up to a hold time after an edge: both edges
+-- are one rise, or they are a rise and the fall that ends it. The second one comes at this tick;
+-- where was the first?
 abbrev pub opened_by : Check → Option Bool → Option ℕ → ℕ → Option ℕ
 opened_by AboutRise (Some true) last t = Some t
 opened_by RiseToFall (Some false) last t = last
@@ -190,7 +190,8 @@ pub record InstanceEnds (c : Circuit) (choices : List Chosen) (bits : Bits) (k f
   pub choice : Chosen
   pub instance_is : slice_get c.instances k ≡ Some instance
   pub choice_is : slice_get choices k ≡ Some choice
-  pub ends : FormEnds (form_of instance.kind) (closes_of instance.kind) bits instance choice.wires from t
+  pub ends : FormEnds (form_of instance.kind)
+      (closes_of instance.kind) bits instance choice.wires from t
 
 abbrev pub ElementEnds : Circuit → List Chosen → Bits → ℕ → Element → ℕ → Type 0
 ElementEnds c choices bits from (OfInstance k) t = InstanceEnds c choices bits k from t

@@ -34,8 +34,8 @@ HasNoTrace text = (lines : List (List ℕ)) (drawing : List ℕ) → HasTrace te
 abbrev pub most_ticks : ℕ
 most_ticks = 4096
 
--- Delays are those that a line says of an instance: none is above 4,095 ticks, and what the line does
--- not show of the pick is what it does, or 0 where it shows nothing.
+-- Delays are those that a line says of an instance: none is above 4,095 ticks, and what the line
+-- does not show of the pick is what it does, or 0 where it shows nothing.
 pub record IsPlain (i : Instance) (pick : ℕ × ℕ) (wires : List ℕ) : Type 0 where
   pub delays_small : AreSmall (shown (picks_count i.kind (two_delays i.kind i.split)) pick)
   pub wires_small : AreSmall wires
@@ -54,7 +54,8 @@ PickIsFit c (Some i) pick wires = IsFitPick c i pick wires
 -- each tick.
 abbrev pub IsWithin : Circuit → Trace → Line → Type 0
 IsWithin c trace Head = (1 ≤ trace.ticks) × (trace.ticks ≤ most_ticks)
-IsWithin c trace (Delays k) = PickIsFit c (slice_get c.instances k) (pick_at trace k) (wires_at trace k)
+IsWithin c trace (Delays k) =
+    PickIsFit c (slice_get c.instances k) (pick_at trace k) (wires_at trace k)
 IsWithin c trace (Bits n) = length (row_at trace n) ≡ trace.ticks
 IsWithin c trace End = ⊤
 

@@ -17,7 +17,8 @@ use Rattle.listing.specs.Text.{bit_text}
 -- none
 abbrev pub lines_after : List ℕ → List ℕ → List (List ℕ)
 lines_after begun [] = []
-lines_after begun (b ∷ bs) = if b == 10 then begun ∷ lines_after [] bs else lines_after (begun ++ b ∷ []) bs
+lines_after begun (b ∷ bs) =
+    if b == 10 then begun ∷ lines_after [] bs else lines_after (begun ++ b ∷ []) bs
 
 abbrev pub lines_of : List ℕ → List (List ℕ)
 lines_of text = lines_after [] text
@@ -83,7 +84,8 @@ picked (suc (suc more)) found = (slice_index_or found 0 0, slice_index_or found 
 
 -- the pick that a line shows, where these wires' delays follow it
 abbrev pub again : Kind → Option Split → ℕ × ℕ → List ℕ → ℕ × ℕ
-again kind two pick wires = picked (picks_count kind two) (shown (picks_count kind two) pick ++ wires)
+again kind two pick wires =
+    picked (picks_count kind two) (shown (picks_count kind two) pick ++ wires)
 
 -- the delays that the numbers behind an instance's name are
 abbrev pub IsGuess : Instance → List ℕ → ℕ × ℕ → List ℕ → Type 0

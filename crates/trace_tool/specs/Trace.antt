@@ -53,7 +53,8 @@ wires_text wires = flat_map wire_text wires
 -- the name of the instance and all its delays
 unfoldable pub instance_line : Instance → ℕ × ℕ → List ℕ → List ℕ
 instance_line i pick wires =
-    concat (bit_text (instance_name i) ∷ codes " " ∷ delay_text i.kind (two_delays i.kind i.split) pick
+    concat (bit_text (instance_name i) ∷ codes " "
+    ∷ delay_text i.kind (two_delays i.kind i.split) pick
     ∷ codes " :" ∷ wires_text wires ∷ [])
 
 abbrev pub digit_text : Bool → List ℕ
@@ -86,7 +87,8 @@ delays_line (Some i) pick wires = instance_line i pick wires
 
 abbrev pub line_text : Circuit → Trace → Line → List ℕ
 line_text c trace Head = head_line trace.ticks
-line_text c trace (Delays k) = delays_line (slice_get c.instances k) (pick_at trace k) (wires_at trace k)
+line_text c trace (Delays k) =
+    delays_line (slice_get c.instances k) (pick_at trace k) (wires_at trace k)
 line_text c trace (Bits n) = net_line c n (row_at trace n)
 line_text c trace End = end_line
 

@@ -1,4 +1,5 @@
--- The forms of words that the simulator has: `run T SEED`, then `case=K` where the run is to be in a case; and `judge F`.
+-- The forms of words that the simulator has: `run T SEED`, then `case=K` where the run is to be in
+-- a case; and `judge F`.
 use Rattle.std.specs.Prelude.{ℕ, ◌-◌, ◌^◌, ◌≤◌, ◌&&◌, nat_le, List, [], ◌∷◌, length, take, drop, codes, decimal, Option, Some, None, IfSome, Result, Ok, Err, if◌then◌else◌}
 use Rattle.std.specs.Str.{bytes_eq}
 use Rattle.scald_lex.specs.Bytes.{value_of}
@@ -17,12 +18,14 @@ greatest_seed = 2 ^ 64 - 1
 
 -- what follows a front
 abbrev pub behind : List ℕ → List ℕ → Option (List ℕ)
-behind front word = if bytes_eq (take (length front) word) front then Some (drop (length front) word) else None
+behind front word =
+    if bytes_eq (take (length front) word) front then Some (drop (length front) word) else None
 
 -- the number of these bounds whose decimal text this is
 unfoldable pub number_in : ℕ → ℕ → List ℕ → Option ℕ
 number_in least most digits =
-    if bytes_eq digits (decimal (value_of digits)) && (nat_le least (value_of digits) && nat_le (value_of digits) most)
+    if bytes_eq digits (decimal (value_of digits))
+    && (nat_le least (value_of digits) && nat_le (value_of digits) most)
     then Some (value_of digits) else None
 
 abbrev pub case_behind : Option (List ℕ) → Option ℕ
@@ -70,8 +73,8 @@ abbrev pub after_judge : List (List ℕ) → Result Command ℕ
 after_judge [] = Err 1
 after_judge (w ∷ ws) = with_from (number_in 0 most_ticks w) ws
 
--- The form that the words have. Of other words it is the number of the first with which no form goes on, or the count of
--- words where one is missing.
+-- The form that the words have. Of other words it is the number of the first with which no form
+-- goes on, or the count of words where one is missing.
 abbrev pub command_of : List (List ℕ) → Result Command ℕ
 command_of [] = Err 0
 command_of (w ∷ ws) =
@@ -84,5 +87,6 @@ command_of (w ∷ ws) =
 -- ticks, a seed and a case that there may be
 abbrev pub IsWithin : Command → Type 0
 IsWithin (Run ticks seed case) =
-    ((1 ≤ ticks) × (ticks ≤ most_ticks)) × ((seed ≤ greatest_seed) × IfSome case (λ k. (1 ≤ k) × (k ≤ most_cases)))
+    ((1 ≤ ticks) × (ticks ≤ most_ticks))
+    × ((seed ≤ greatest_seed) × IfSome case (λ k. (1 ≤ k) × (k ≤ most_cases)))
 IsWithin (Judge from) = from ≤ most_ticks

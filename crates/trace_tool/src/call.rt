@@ -9,11 +9,13 @@ use program_call::main_call;
 use scald_base::{Sink, Source, Words};
 use std::alloc::Global;
 
-/// Answers what the words ask for and writes it to the sink: the trace of a run that a seed draws of the
-/// circuit that the source's text draws, or what is to be said of a trace and the drawing that follows it.
+/// Answers what the words ask for and writes it to the sink: the trace of a run that a seed draws
+/// of the circuit that the source's text draws, or what is to be said of a trace and the drawing
+/// that follows it.
 ///
-/// The source is read to its end, or to the first byte past 4,194,304 or, of a trace and a drawing, past
-/// 16,777,216, or to its first fault. All of the answer is made before the first byte of it is written.
+/// The source is read to its end, or to the first byte past 4,194,304 or, of a trace and a drawing,
+/// past 16,777,216, or to its first fault. All of the answer is made before the first byte of it is
+/// written.
 pub fn trace_main<S: Source, K: Sink>(
     alloc: Global,
     words: &Words,

@@ -18,9 +18,9 @@ use trace_sim::{draw, simulate};
 /// The most bits of a trace.
 const MOST_BITS: u64 = 4_000_000;
 
-/// The trace of a run of so many ticks that a seed draws of the circuit of a text, in the case of a number
-/// from 1 where one is asked for; or why the text is refused, that there is no such case, or that the
-/// trace would have more than 4,000,000 bits.
+/// The trace of a run of so many ticks that a seed draws of the circuit of a text, in the case of a
+/// number from 1 where one is asked for; or why the text is refused, that there is no such case, or
+/// that the trace would have more than 4,000,000 bits.
 pub fn run(
     alloc: Global,
     text: &[u8],
@@ -51,7 +51,8 @@ fn run_on(
     requires listed { All (IsListed c.now) cases.now }
     requires few { length cases.now ≤ 256 }
     requires from_one { IfSome case (λ k. 1 ≤ k) }
-    ensures { IfOk result (λ reply. RanOn c.now cases.now ticks seed case reply.outcome reply.bytes) }
+    ensures { IfOk result (λ reply.
+        RanOn c.now cases.now ticks seed case reply.outcome reply.bytes) }
 {
     match case {
         None => run_in(alloc, c, &Case::new(alloc), ticks, seed),

@@ -100,8 +100,8 @@ fn sooner(best: Option<(Element, u16)>, e: Element, end: Option<u16>) -> Option<
 
 /// The first break whose ticks all lie from a given one on, and its greatest tick: the one whose
 /// greatest tick is least, and of these that of the first element, instances by their numbers and
-/// then nets in name order. `None` comes exactly where nothing is broken from there on. Of the choice
-/// the delays of wires alone count. Takes a time linear in pins times ticks.
+/// then nets in name order. `None` comes exactly where nothing is broken from there on. Of the
+/// choice the delays of wires alone count. Takes a time linear in pins times ticks.
 pub fn first_break(
     alloc: Global,
     c: &Circuit,

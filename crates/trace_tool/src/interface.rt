@@ -140,7 +140,8 @@ fn is_shifted(clock: &ClockSpec, h: &Header, by: usize, row: &[bool]) -> bool
 
 fn meets_precision(clock: &ClockSpec, h: &Header, row: &[bool]) -> bool
     requires { length row.now < 2 ^ 16 }
-    ensures { MatchBool result (MeetsPrecision h.now clock.now (length row.now) (row_signal row.now))
+    ensures { MatchBool result (MeetsPrecision h.now clock.now (length row.now)
+        (row_signal row.now))
         (¬ (MeetsPrecision h.now clock.now (length row.now) (row_signal row.now))) }
 {
     let skew = skew_of(clock, h.pskew);

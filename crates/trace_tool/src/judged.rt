@@ -19,9 +19,10 @@ use std::alloc::Global;
 use timing_analysis::read_circuit;
 use trace_sim::{Choice, Levels, Traces, first_failure};
 
-/// What is to be said of the trace with which a text begins, with breaks from a tick on: whether it is a
-/// run of the circuit that the rest of the text draws, whether its inputs keep their assertions, and what
-/// breaks first; or why the drawing is refused, or which line of the trace is wrong.
+/// What is to be said of the trace with which a text begins, with breaks from a tick on: whether it
+/// is a run of the circuit that the rest of the text draws, whether its inputs keep their
+/// assertions, and what breaks first; or why the drawing is refused, or which line of the trace is
+/// wrong.
 pub fn judge(alloc: Global, text: &[u8], from: u16) -> Result<Reply<TraceOutcome>, NoMemory>
     requires { length text.now < 2 ^ 32 - 1 }
     ensures { IfOk result (λ reply. Judged from text.now reply.outcome reply.bytes) }
@@ -44,7 +45,8 @@ fn judge_lines(
     from: u16,
 ) -> Result<Reply<TraceOutcome>, NoMemory>
     requires { IsEnded (lines_of lines.now) }
-    ensures { IfOk result (λ reply. JudgedOn c.now (lines_of lines.now) from reply.outcome reply.bytes) }
+    ensures { IfOk result (λ reply.
+        JudgedOn c.now (lines_of lines.now) from reply.outcome reply.bytes) }
 {
     match read_trace(alloc, c, lines) {
         Ok(trace) => judge_trace(alloc, c, trace, from),
@@ -96,7 +98,8 @@ fn judge_run(
     requires is_run { IsRun c.now (run_of ticks (choices_of choice.now) bits.now) }
     requires long { AreTraces (length c.now.nets) ticks bits.now }
     ensures { IfOk result (λ reply.
-        Verdict c.now (run_of ticks (choices_of choice.now) bits.now) from reply.outcome reply.bytes) }
+        Verdict c.now (run_of ticks (choices_of choice.now) bits.now) from reply.outcome
+        reply.bytes) }
 {
     let stray = first_stray(c, ticks, bits);
     let found = first_break(alloc, c, choice, ticks, bits, from)?;

@@ -1,14 +1,15 @@
 //! The simulator: runs of a drawing's circuit, made and judged.
 //!
-//! `run T SEED` draws a run of so many ticks by the words of a generator that is seeded so, in a case
-//! where `case=K` follows; `judge F` says whether a trace is a run, and what breaks in it from tick F
-//! on. The program calls [`trace_main`], the main call of `program_call` for [`Simulator`]
+//! `run T SEED` draws a run of so many ticks by the words of a generator that is seeded so, in a
+//! case where `case=K` follows; `judge F` says whether a trace is a run, and what breaks in it from
+//! tick F on. The program calls [`trace_main`], the main call of `program_call` for [`Simulator`]
 //! (`specs/Simulator`); `specs/Ran` says what `run` replies, and `specs/Judged` what `judge` does.
 //!
 //! `specs/Trace` says what the lines of a trace are, and `specs/Reading` which is the first that is
 //! wrong; that they say every bit is a law in [`laws`]. [`first_stray`] finds the first net that
-//! nothing drives and that does not keep its assertion (`specs/Interface`), and [`first_break`] what
-//! is broken first from a tick on (`specs/Break`), in one pass for each element (`specs/Pass`).
+//! nothing drives and that does not keep its assertion (`specs/Interface`), and [`first_break`]
+//! what is broken first from a tick on (`specs/Break`), in one pass for each element
+//! (`specs/Pass`).
 #![tactic(auto)]
 
 // the text of a trace

@@ -16,8 +16,8 @@ pub enum TraceOutcome {
     Refused(Refusal),
     /// The trace is no run: the tick and the net that show it are written.
     NotRun,
-    /// The words are unrecognised. The number is that of the first with which no form continues, from
-    /// 0, or the count of words where one is missing. Nothing is read or written.
+    /// The words are unrecognised. The number is that of the first with which no form continues,
+    /// from 0, or the count of words where one is missing. Nothing is read or written.
     BadWords(u32),
     /// More bytes came than are read. Nothing is written.
     TooLong,
@@ -30,7 +30,8 @@ pub enum TraceOutcome {
     /// The line of the trace with this number, from 1, is not what stands there in a trace of the
     /// circuit; or, where the number is 0, no line ends the trace. Nothing is written.
     BadTrace(u32),
-    /// There is no case of the number that was asked for: the drawing has so many. Nothing is written.
+    /// There is no case of the number that was asked for: the drawing has so many. Nothing is
+    /// written.
     NoCase(u32),
     /// The trace would have more than 4,000,000 bits. Nothing is written.
     TooBig,

@@ -16,7 +16,8 @@ pub(crate) fn is_same(text: &[u8], other: &[u8]) -> bool
 /// The first line of a text, without the byte 10 that ends it, and what follows it; `None` exactly
 /// where no line ends.
 pub(crate) fn next_line(text: &[u8]) -> Option<(&[u8], &[u8])>
-    ensures { MatchOption result (lines_of text.now ≡ []) (λ p. StartsWith text.now p.0.now p.1.now) }
+    ensures { MatchOption result (lines_of text.now ≡ [])
+        (λ p. StartsWith text.now p.0.now p.1.now) }
 {
     for (at, byte) in text.iter().enumerate() {
         if *byte == b'\n' {
@@ -29,7 +30,8 @@ pub(crate) fn next_line(text: &[u8]) -> Option<(&[u8], &[u8])>
 /// The lines of the trace with which a text begins, and the drawing that follows them; `None`
 /// exactly where no line of the text ends a trace.
 pub fn split_trace(text: &[u8]) -> Option<(&[u8], &[u8])>
-    ensures { MatchOption result (HasNoTrace text.now) (λ p. HasTrace text.now (lines_of p.0.now) p.1.now) }
+    ensures { MatchOption result (HasNoTrace text.now)
+        (λ p. HasTrace text.now (lines_of p.0.now) p.1.now) }
 {
     let mut rest = text;
     'lines: while let Some((line, after)) = next_line(rest) {

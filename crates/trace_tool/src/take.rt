@@ -60,7 +60,8 @@ fn take_delays(
     requires inside { k < length c.now.instances }
     requires long { AreLong c.now trace.old }
     ensures { IfOk result (λ right. MatchBool right
-        (IsTaken c.now trace.old trace.new (Delays k) line.now) (IsRefused c.now trace.old (Delays k) line.now)) }
+        (IsTaken c.now trace.old trace.new (Delays k) line.now)
+        (IsRefused c.now trace.old (Delays k) line.now)) }
 {
     let Some(i) = c.instance(k) else {
         return Ok(false);
@@ -85,7 +86,8 @@ fn take_bits(
     requires inside { net < length c.now.nets }
     requires long { AreLong c.now trace.old }
     ensures { IfOk result (λ right. MatchBool right
-        (IsTaken c.now trace.old trace.new (Bits net) line.now) (IsRefused c.now trace.old (Bits net) line.now)) }
+        (IsTaken c.now trace.old trace.new (Bits net) line.now)
+        (IsRefused c.now trace.old (Bits net) line.now)) }
 {
     match read_bits(alloc, c, net, trace.ticks, line)? {
         None => Ok(false),
@@ -143,7 +145,8 @@ fn begun(alloc: Global, c: &Circuit) -> Result<Trace, NoMemory>
 /// first line that lacks the form, the name or the bounds of its place.
 pub fn read_trace(alloc: Global, c: &Circuit, lines: &[u8]) -> Result<Trace, TraceFault>
     requires { IsEnded (lines_of lines.now) }
-    ensures { MatchResult result (IsReadAs c.now (lines_of lines.now)) (IsFault c.now (lines_of lines.now)) }
+    ensures { MatchResult result (IsReadAs c.now (lines_of lines.now))
+        (IsFault c.now (lines_of lines.now)) }
 {
     c.known();
     let mut trace = begun(alloc, c)?;

@@ -51,14 +51,15 @@ fn breaks(
     t: u16,
 ) -> bool
     ensures { result
-        ≡ (breaks_setup_time edge change (setup_of limits) || breaks_hold_time changes close (hold_of limits) t) }
+        ≡ (breaks_setup_time edge change (setup_of limits)
+        || breaks_hold_time changes close (hold_of limits) t) }
 {
     breaks_setup(edge, change, limits.setup()) || breaks_hold(changes, close, limits.hold(), t)
 }
 
 /// The first tick that ends a break of a setup or hold time, from a tick on. What matters before it
-/// are the last change of the input, the last step of the clock and the last edge from which the input
-/// is held.
+/// are the last change of the input, the last step of the clock and the last edge from which the
+/// input is held.
 pub fn window_end(
     check: Check,
     i: &Instance,

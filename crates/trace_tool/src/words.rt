@@ -16,8 +16,8 @@ const MOST_CASES: u64 = 256;
 /// What the simulator is asked for.
 #[derive(Clone, Copy, PartialEq, Eq, Debug)]
 pub enum Command {
-    /// `run`: a run of 1 to 4,096 ticks, drawn by a seed, and in a case of 1 to 256 where one is asked
-    /// for.
+    /// `run`: a run of 1 to 4,096 ticks, drawn by a seed, and in a case of 1 to 256 where one is
+    /// asked for.
     Run {
         ticks: u16,
         seed: u64,

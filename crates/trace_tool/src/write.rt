@@ -136,7 +136,8 @@ fn add_text(out: &mut Bytes, c: &Circuit, trace: &Trace, line: Line) -> Result<(
 /// A line, with the byte that ends it.
 fn add_ended(out: &mut Bytes, c: &Circuit, trace: &Trace, line: Line) -> Result<(), NoMemory>
     ensures ok { OnOk result (out.new ≡ out.old ++ (line_text c.now trace.now line ++ 10 ∷ [])) }
-    ensures err { OnErr result (HasPart out.old out.new (line_text c.now trace.now line ++ 10 ∷ [])) }
+    ensures err { OnErr result
+        (HasPart out.old out.new (line_text c.now trace.now line ++ 10 ∷ [])) }
 {
     add_text(out, c, trace, line)?;
     out.push(b'\n')

@@ -1,5 +1,5 @@
-//! Drawings of 1, 3 and 200 sections, whose lengths, first lines and last lines were worked out from
-//! the format.
+//! Drawings of 1, 3 and 200 sections, whose lengths, first lines and last lines were worked out
+//! from the format.
 
 use crate::rows::{expect, expect_eq};
 use design_gen::generate;

@@ -1,5 +1,5 @@
-//! Two gates side by side that differ in one thing, and what the classes of their nets are then; and the
-//! classes of whole drawings.
+//! Two gates side by side that differ in one thing, and what the classes of their nets are then;
+//! and the classes of whole drawings.
 
 use crate::rows::{expect, expect_eq, expect_list};
 use flat_circuit::{ClassMap, classes, stable};
@@ -7,7 +7,8 @@ use scald_base::Bytes;
 use std::process::Abort;
 use timing_analysis::{Drawn, read_circuit};
 
-/// Two nets that nothing drives and two that gates drive, numbered by their bits, and the first of the gates.
+/// Two nets that nothing drives and two that gates drive, numbered by their bits, and the first of
+/// the gates.
 const FIRST: &[u8] = br#"WIRE 0:2;
 DRAWING GATES;
 WIRE "X"<0:3> 0:2;
@@ -33,11 +34,12 @@ const ALIKE: &[u8] = br#"CASE "X"<0>=0, "X"<1>=0;"#;
 
 const UNLIKE: &[u8] = br#"CASE "X"<0>=0, "X"<1>=1;"#;
 
-/// The name of a row, its second gate, its case, a number for each net, and whether these are stable classes.
+/// The name of a row, its second gate, its case, a number for each net, and whether these are
+/// stable classes.
 type StableRow = (&'static str, &'static [u8], &'static [u8], [u32; 4], bool);
 
-/// Gates in one class that differ in one thing; and then classes of gates on different nets, and of nets to
-/// which a case gives the same value, or another.
+/// Gates in one class that differ in one thing; and then classes of gates on different nets, and of
+/// nets to which a case gives the same value, or another.
 const GATES: [StableRow; 16] = [
     ("nothing", PLAIN, NO_CASE, [0, 0, 2, 2], true),
     ("delay", SLOWER, NO_CASE, [0, 0, 2, 2], false),
@@ -116,8 +118,8 @@ const FEWEST: [FewestRow; 6] = [
     ),
 ];
 
-/// The name of a row, what follows the head of its drawing, a number for each net, and whether these are
-/// stable classes.
+/// The name of a row, what follows the head of its drawing, a number for each net, and whether
+/// these are stable classes.
 type DrawingRow = (&'static str, &'static [u8], &'static [u32], bool);
 
 /// Two buffers from a clock, whose nets are numbered CK, X, Y.
@@ -174,8 +176,8 @@ END;
     ),
 ];
 
-/// Three sections of eight bits in a chain, as `bench 3` has them. The 57 nets are numbered as the text names
-/// them: Q0, D1, the clock CK, Q1, D2, Q2, D3 and Q3.
+/// Three sections of eight bits in a chain, as `bench 3` has them. The 57 nets are numbered as the
+/// text names them: Q0, D1, the clock CK, Q1, D2, Q2, D3 and Q3.
 const SECTIONS: &[u8] = br#"WIRE 0:2;
 DRAWING BENCH;
 g1 : CHG [20:60] ("Q0 .S4-3"<0:7>) -> ("D1"<0:7>);

@@ -36,8 +36,8 @@ fn text(rt: &(impl Abort + AllocGlobal)) -> Bytes {
     Bytes::of(rt.alloc(), TEXT).expect(rt, "the text")
 }
 
-/// The name of a row, how many bytes a call gives, which calls fail, how many bytes may come, what comes
-/// of reading them all, and what is left.
+/// The name of a row, how many bytes a call gives, which calls fail, how many bytes may come, what
+/// comes of reading them all, and what is left.
 type ReadRow = (
     &'static str,
     u16,
@@ -81,8 +81,8 @@ fn reads(rt: HostRuntime) {
     }
 }
 
-/// The name of a row, how much room there is, how many bytes a call takes, which calls fail, what comes of
-/// writing ten bytes, and what is taken.
+/// The name of a row, how much room there is, how many bytes a call takes, which calls fail, what
+/// comes of writing ten bytes, and what is taken.
 type WriteRow = (
     &'static str,
     u16,

@@ -1,10 +1,11 @@
-//! What is tested of single calls and the built program does not show: devices, tokens, expressions, signal names,
-//! the bits of vectors, the words of faults and the drawing of a bench; the seven values and their tables, and waves of
-//! slots; and the classes of nets. Each row has what goes into a call, and what comes of it as it was worked out on
-//! paper. What elements, nets and circuits do stands in `checks/calls`.
+//! What is tested of single calls and the built program does not show: devices, tokens,
+//! expressions, signal names, the bits of vectors, the words of faults and the drawing of a bench;
+//! the seven values and their tables, and waves of slots; and the classes of nets. Each row has
+//! what goes into a call, and what comes of it as it was worked out on paper. What elements, nets
+//! and circuits do stands in `checks/calls`.
 //!
-//! The crate has tests alone, and nothing stands on it. `rows` has how a row is judged, and `cells` the cells of the
-//! waves; the other modules have the rows.
+//! The crate has tests alone, and nothing stands on it. `rows` has how a row is judged, and `cells`
+//! the cells of the waves; the other modules have the rows.
 #![tactic(auto)]
 
 // how a row is judged

@@ -309,8 +309,8 @@ fn whole_texts_are_read_to_the_first_end(rt: HostRuntime) {
 
 const FULL: Result<(), WriteFault> = Err(WriteFault);
 
-/// The name of a row, how many bytes there are, the script, what comes of writing them, for how much
-/// each call asks, and how many are left.
+/// The name of a row, how many bytes there are, the script, what comes of writing them, for how
+/// much each call asks, and how many are left.
 type WriteRow = (
     &'static str,
     usize,
