@@ -26,7 +26,7 @@ use run_wave::RunWave;
 use scald_base::{NoMemory, Outcome};
 use std::alloc::Global;
 use step_values::Value;
-use timing_analysis::{SettledCase, SettledBase, Subject};
+use timing_analysis::{SettledBase, SettledCase, Subject};
 
 /// What is told of a circuit, and the round in which its base settled.
 #[derive(Drop)]

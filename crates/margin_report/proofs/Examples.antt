@@ -75,7 +75,7 @@ case number input = record { listed = record { number = number; values = [] }; r
 -- ---- setup and hold of one tick each, and an input that may change in one slot
 
 abbrev edge : Instance
-edge = checker SetupHold (1, 1) (pin 0 ∷ pin 1 ∷ [])
+edge = checker SetupHold (Edges 1 1) (pin 0 ∷ pin 1 ∷ [])
 
 abbrev in_5 : Wave Value
 in_5 = eight S S S S S C S S
@@ -110,7 +110,7 @@ the_first_of_two = refl
 -- ---- widths of the clock's pulses
 
 abbrev width : Instance
-width = checker MinPulse (2, 0) (pin 0 ∷ [])
+width = checker MinPulse (Pulses 2 0) (pin 0 ∷ [])
 
 high_pulses : margin (circuit width) (case 0 in_5 ∷ []) 0 width High ≡ Next 0 0 (Width 0 true 2 2)
 unfolding margin width_fault moved normal back earlier
@@ -124,7 +124,7 @@ low_pulses = refl
 
 -- high pulses of two slots where three are asked for, and low ones of six where seven are
 abbrev wider : Instance
-wider = checker MinPulse (3, 7) (pin 0 ∷ [])
+wider = checker MinPulse (Pulses 3 7) (pin 0 ∷ [])
 
 own_high : own_faults (circuit wider) (case 0 in_5).waves 0 High ≡ Width 0 true 2 2 ∷ []
 unfolding instance_faults width_fault moved normal back earlier

@@ -12,8 +12,7 @@ use Rattle.program_call.specs.Wordless.{reporting_program}
 use Rattle.margin_report.specs.Report.{margin_lines, rows}
 
 -- The call is done with the lines of the margins over all cases, by the version of the drawing,
--- whichever the rounds of the
--- base are.
+-- whichever the rounds of the base are.
 pub record AreMargins (version : ℕ) (c : Circuit) (base : ℕ) (cases : List Case) (o : Outcome)
     (bytes : List ℕ) : Type 0 where
   pub outcome : o ≡ Done

@@ -1,6 +1,5 @@
 -- Calls of the program that gives back what it reads, three bytes at most: one that is a call, and
--- for each promise one
--- that breaks it.
+-- for each promise one that breaks it.
 use Rattle.std.proofs.Common.{◌≡◌, ◌∙◌, ℕ, ◌≤◌, inl, inr, Bool, true, List, [], ◌∷◌, length}
 use Rattle.std.proofs.Common.{refl, sym, ap, subst, length-append, arith, Option, Some, None}
 use Rattle.std.specs.Prelude.{◌⊎◌, slice_index_or}

@@ -1,6 +1,5 @@
 -- What is answered on a text whose circuit is evaluated: what is reported of its settled cases, or
--- why there is nothing to
--- report.
+-- why there is nothing to report.
 use Rattle.std.specs.Prelude.{ℕ, ◌==◌, Bool, true, false, List, Option, Some, None, if◌then◌else◌}
 use Rattle.scald_base.specs.declared.refusal.Refusal.{Refusal}
 use Rattle.scald_base.specs.declared.outcome.Outcome.{Outcome}
@@ -29,10 +28,8 @@ abbrev pub Reporting : Type 1
 Reporting = Circuit → ℕ → List Case → Outcome → List ℕ → Type 0
 
 -- What is answered on a circuit and its cases, with which bytes: what is reported of the settled
--- base and cases; or, where
--- the base or else a case has not settled by the limit, and every case before it has, the first net
--- in name order that
--- still changes there.
+-- base and cases; or, where the base or else a case has not settled by the limit, and every case
+-- before it has, the first net in name order that still changes there.
 pub data Concluded (Reports : Reporting) (c : Circuit) (values : List (List CaseValue))
     (limit : ℕ) :
     Outcome → List ℕ → Type 0 where

@@ -39,7 +39,6 @@ wordless name Replied = record {
 }
 
 -- It replies what is reported of the circuit, by its drawing, at its own limit of rounds, or why
--- there is nothing to
--- report.
+-- there is nothing to report.
 abbrev pub reporting_program : List ℕ → (Drawing → Reporting) → Meaning Request Outcome
 reporting_program name Reports = wordless name (Evaluated Reports None)

@@ -175,13 +175,13 @@ not_of_or = unbroken (λ b. b)
 not_of_xor : ¬ Breaks (element Xor (Pulses 8 8) (on 0 ∷ [])) (run "00011000") true 0
 not_of_xor = unbroken (λ b. b)
 
-not_of_mux2 : ¬ Breaks (element Mux2 (8, 8) (on 0 ∷ [])) (run "00011000") true 0
+not_of_mux2 : ¬ Breaks (element Mux2 (Pulses 8 8) (on 0 ∷ [])) (run "00011000") true 0
 not_of_mux2 = unbroken (λ b. b)
 
-not_of_mux4 : ¬ Breaks (element Mux4 (8, 8) (on 0 ∷ [])) (run "00011000") true 0
+not_of_mux4 : ¬ Breaks (element Mux4 (Pulses 8 8) (on 0 ∷ [])) (run "00011000") true 0
 not_of_mux4 = unbroken (λ b. b)
 
-not_of_mux8 : ¬ Breaks (element Mux8 (8, 8) (on 0 ∷ [])) (run "00011000") true 0
+not_of_mux8 : ¬ Breaks (element Mux8 (Pulses 8 8) (on 0 ∷ [])) (run "00011000") true 0
 not_of_mux8 = unbroken (λ b. b)
 
 not_of_chg : ¬ Breaks (element Chg (Pulses 8 8) (on 0 ∷ [])) (run "00011000") true 0

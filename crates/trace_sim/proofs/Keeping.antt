@@ -16,7 +16,7 @@ use Rattle.pin_waves.specs.Meets.{Meets}
 use Rattle.trace_sim.specs.Draw.{Draw, draw_each}
 use Rattle.trace_sim.specs.Drawn.{draw_offset, draw_shift}
 use Rattle.trace_sim.specs.Input.{asserted, given_in, held, slot_of}
-use Rattle.trace_sim.specs.DrawLaws.{MayRest}
+use Rattle.trace_sim.specs.DrawLaws.{MayStay}
 use Rattle.trace_sim.proofs.Moved.{keeps_clock}
 
 -- ---- by the assertion
@@ -38,11 +38,11 @@ same_bits h (Clock c) n x y same meets = record {
 same_bits h (Stable spans) n x y same meets = λ t some below calm.
     same (t - 1) (omega arith) ∙ meets t some below calm ∙ sym (same t below)
 
-pub rests : (h : Header) (spec : AssertSpec) (n : ℕ) (one : Bool) → MayRest spec → Meets h spec n (λ t. one)
-rests h Unasserted n one may = λ t some below. refl
-rests h (Precision c) n one may = absurd may
-rests h (Clock c) n one may = absurd may
-rests h (Stable spans) n one may = λ t some below calm. refl
+pub stays : (h : Header) (spec : AssertSpec) (n : ℕ) (one : Bool) → MayStay spec → Meets h spec n (λ t. one)
+stays h Unasserted n one may = λ t some below. refl
+stays h (Precision c) n one may = absurd may
+stays h (Clock c) n one may = absurd may
+stays h (Stable spans) n one may = λ t some below calm. refl
 
 keeps_quiet : (h : Header) (spans : List Span) (free : Signal) (t : ℕ) → 1 ≤ t → quiet spans h (slot_of h t) ≡ true →
     held h spans free (t - 1) ≡ held h spans free t
@@ -68,9 +68,9 @@ keeps_asserted h (Stable spans) n by free pos fits within = λ t some below calm
 -- ---- what is given of a net that nothing drives
 
 pub keeps_given : (h : Header) (value : Option Bool) (net : Net) (n by : ℕ) (free : Signal) → 0 < period h → Fits h net.spec →
-    net.driver ≡ None → ((one : Bool) → value ≡ Some one → MayRest net.spec) → IsShift h net.spec by →
+    net.driver ≡ None → ((one : Bool) → value ≡ Some one → MayStay net.spec) → IsShift h net.spec by →
     Meets h net.spec n (given_in h value (Some net) by free)
-keeps_given h (Some one) net n by free pos fits undriven may within = rests h net.spec n one (may one refl)
+keeps_given h (Some one) net n by free pos fits undriven may within = stays h net.spec n one (may one refl)
 keeps_given h None net n by free pos fits undriven may within =
     same_bits h net.spec n (given_in h None (Some net) by free) (asserted h net.spec by free)
     (λ t below. ap (λ (d : Option ℕ). (cond (is_some d) free (asserted h net.spec by free)) t) undriven)

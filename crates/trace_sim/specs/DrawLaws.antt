@@ -13,17 +13,17 @@ use Rattle.trace_sim.specs.Simulated.{bit_of}
 use Rattle.trace_sim.specs.Input.{IsDrawn}
 
 -- a net that keeps this assertion may be constant
-abbrev pub MayRest : AssertSpec → Type 0
-MayRest Unasserted = ⊤
-MayRest (Precision c) = ⊥
-MayRest (Clock c) = ⊥
-MayRest (Stable spans) = ⊤
+abbrev pub MayStay : AssertSpec → Type 0
+MayStay Unasserted = ⊤
+MayStay (Precision c) = ⊥
+MayStay (Clock c) = ⊥
+MayStay (Stable spans) = ⊤
 
 -- no clock has a value in the case
 abbrev pub SetsNoClock : Circuit → List CaseValue → Type 0
 SetsNoClock c values =
     (i : ℕ) (net : Net) (one : Bool) → slice_get c.nets i ≡ Some net →
-    value_in values i ≡ Some one → MayRest net.spec
+    value_in values i ≡ Some one → MayStay net.spec
 
 -- each net that nothing drives keeps its assertion
 abbrev pub InputsMeet : Type 0

@@ -18,7 +18,7 @@ use Rattle.trace_sim.specs.declared.choice.Choice.{Choice}
 use Rattle.trace_sim.specs.Choice.{Bits, ChoiceFits, choices_of}
 use Rattle.trace_sim.specs.Simulated.{IsSimulated, bit_of, run_of}
 use Rattle.trace_sim.specs.Input.{IsDrawn}
-use Rattle.trace_sim.specs.DrawLaws.{MayRest, SetsNoClock}
+use Rattle.trace_sim.specs.DrawLaws.{MayStay, SetsNoClock}
 use Rattle.trace_sim.proofs.Inputs.{cases_hold, inputs_meet}
 use Rattle.trace_sim.proofs.Keeping.{same_bits}
 use Rattle.trace_tool.specs.Ran.{IsDrawnRun}
@@ -33,13 +33,13 @@ record FreeNet (found : Option Net) : Type 0 where
   net : Net
   is : found ≡ Some net
   undriven : net.driver ≡ None
-  rests : MayRest net.spec
+  stays : MayStay net.spec
 
-may_rest : (spec : AssertSpec) → not (is_clock spec) ≡ true → MayRest spec
-may_rest Unasserted no_clock = tt
-may_rest (Precision c) no_clock = absurd cc
-may_rest (Clock c) no_clock = absurd cc
-may_rest (Stable spans) no_clock = tt
+may_stay : (spec : AssertSpec) → not (is_clock spec) ≡ true → MayStay spec
+may_stay Unasserted no_clock = tt
+may_stay (Precision c) no_clock = absurd cc
+may_stay (Clock c) no_clock = absurd cc
+may_stay (Stable spans) no_clock = tt
 
 undriven_is : (driver : Option ℕ) (b : Bool) → (is_none driver && b) ≡ true → driver ≡ None
 undriven_is None b both = refl
@@ -51,7 +51,7 @@ free_net (Some net) free = record {
   net = net;
   is = refl;
   undriven = undriven_is net.driver (not (is_clock net.spec)) free;
-  rests = may_rest net.spec (and_right (is_none net.driver) (not (is_clock net.spec)) free);
+  stays = may_stay net.spec (and_right (is_none net.driver) (not (is_clock net.spec)) free);
 }
 
 free_set : (c : Circuit) (values : List CaseValue) (i : ℕ) → ((k : ℕ) (d : CaseValue) → k < length values →
@@ -69,7 +69,7 @@ sets_no_clock c values listed i net one is set =
     let some : is_some (value_in values i) ≡ true = ap is_some set in
     let free = free_net (slice_get c.nets i) (free_set c values i listed.free (sym (set_is values i) ∙ some)) in
     let same : free.net ≡ net = (let a = free.is in cc) in
-    subst (λ (n : Net). MayRest n.spec) same free.rests
+    subst (λ (n : Net). MayStay n.spec) same free.stays
 
 -- ---- the value of each net of a case
 

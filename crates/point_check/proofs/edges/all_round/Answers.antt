@@ -14,5 +14,5 @@ returns-in-Some-clause-window g c =
     let cells = g.W.CyclicWave.cells c.args.clock.now in
     let found = c.in-Some.ensures in
     let p = c.period-period.ensures in
-    rw p (ap (λ (falls : Bool). all_round (length cells) c.args.limits falls)
+    rw (p, c.setup.ensures) (ap (λ (falls : Bool). all_round (length cells) c.args.limits falls)
     (falls_where cells c.period-period.result p c.in-Some._fall found.within (λ k below. let said = found.before k (omega arith) below in search rules) (let said = found.passes in search rules)))
