@@ -1,4 +1,4 @@
-//! Reads expressions. Each function is given how many parentheses and minus signs are open.
+//! Reads expressions. Each function is told how many parentheses and minus signs are open.
 
 ghost use Rattle.std.specs.Prelude.{◌≡◌, ◌≢◌, ◌≤◌, ◌<◌, ℕ, suc, List, ◌∷◌, length, IfOk, OnOk, IfErr, IfSome, IfNone, IsFalse, Some, None};
 ghost use Rattle.drawing_tree.specs.Expression.{expression_of};

@@ -20,7 +20,7 @@ module _ {T : Type 0} where
       (λ j below. h (suc j) (omega arith) ∙ (let there : i + suc j ≡ i + 1 + j = omega arith in ap f there)) in
       λ k. first k ∷ rest k
 
-  -- a list is given by the cell of each slot
+  -- a list is told by the cell of each slot
   pub is_slots : (n : ℕ) (f : ℕ → T) (xs : List T) (d : T) → length xs ≡ n → ((j : ℕ) → j < n → get_or xs j d ≡ f j) → xs ≡ slots n f
   is_slots n f xs d e h = is_slots_from n 0 f xs d e (λ j below. h j below ∙ (let at : j ≡ 0 + j = omega arith in ap f at))
 
