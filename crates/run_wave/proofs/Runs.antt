@@ -53,6 +53,36 @@ module _ {T : Type 0} where
       ap length (cells_of_parts rs i) ∙ length-append (cells_of (take i rs)) (cells_of (drop i rs)) in
       omega (arith, e)
 
+  -- ---- as many runs as slots
+
+  length_cells_of_next : (r : Run T) (rs : List (Run T)) → length (cells_of (r ∷ rs)) ≡ r.width + length (cells_of rs)
+  length_cells_of_next r rs =
+      length-append (replicate r.width r.cell) (cells_of rs) ∙ ap (λ (n : ℕ). n + length (cells_of rs)) (length-replicate r.width r.cell)
+
+  runs_within : (rs : List (Run T)) → IsRuns rs → length rs ≤ length (cells_of rs)
+  runs_within [] h = omega arith
+  runs_within (r ∷ rs) h =
+      let rest = runs_within rs h.1.1 in
+      let some : 0 < r.width = h.0 in
+      let long = length_cells_of_next r rs in
+      omega (arith, rest, some, long)
+
+  -- each of them has one slot then
+  pub single_slots : (rs : List (Run T)) (i : ℕ) → IsRuns rs → length rs ≡ length (cells_of rs) → i ≤ length rs →
+      length (cells_of (take i rs)) ≡ i
+  single_slots [] zero h e within = refl
+  single_slots [] (suc i) h e within = absurd (omega (arith, within))
+  single_slots (r ∷ rs) zero h e within = refl
+  single_slots (r ∷ rs) (suc i) h e within =
+      let rest = runs_within rs h.1.1 in
+      let some : 0 < r.width = h.0 in
+      let long = length_cells_of_next r rs in
+      let one : r.width ≡ 1 = omega (arith, rest, some, long, e) in
+      let tail : length rs ≡ length (cells_of rs) = omega (arith, rest, some, long, e) in
+      let before = single_slots rs i h.1.1 tail (omega (arith, within)) in
+      let front = length_cells_of_next r (take i rs) in
+      omega (arith, one, before, front)
+
   -- ---- a run that is pushed, as a run of its own or as part of the last
 
   pub ends_some : (rs : List (Run T)) (c : T) → EndsWith rs c → 0 < length rs

@@ -194,7 +194,8 @@ impl<T: Cell + Drop> RunList<T> {
         (STRIDE * marks, self.marks[marks - 1])
     }
 
-    /// The run that a slot is in, and the first slot after that run.
+    /// The run that a slot is in, and the first slot after that run. Where each slot has a run of
+    /// its own, as in a wave that changes in every slot, it has the slot's number.
     fn run_with(&self, slot: u16) -> (usize, u16)
         requires { slot < length (cells_of self.now.runs.items) }
         ensures known { result.0 < length self.now.runs.items }
@@ -202,6 +203,9 @@ impl<T: Cell + Drop> RunList<T> {
         ensures behind { slot < result.1 }
         ensures end { result.1 ≡ length (cells_of (take (result.0 + 1) self.now.runs.items)) }
     {
+        if self.runs.len() == usize::from(self.slots) {
+            return (usize::from(slot), slot + 1);
+        }
         let (first, mut end) = self.mark_before(slot);
         for place in first..self.runs.len() {
             end += self.runs[place].width;

@@ -142,8 +142,11 @@ impl<T: Cell + Drop> CyclicWave for RunWave<T> {
     /// By doubling: the folds over twice as many slots are those over half of them, joined with
     /// themselves that much later.
     fn fold(&self, alloc: Global, back: u16) -> Result<RunWave<T>, NoMemory> {
-        let mut wave = self.copy(alloc)?;
-        let mut reach = 0;
+        if back == 0 {
+            return self.copy(alloc);
+        }
+        let mut wave = self.joined_later(alloc, 1)?;
+        let mut reach = 1;
         while reach < back {
             let by = min(reach + 1, back - reach);
             wave = wave.joined_later(alloc, by)?;

@@ -1,5 +1,6 @@
-use Rattle.std.proofs.Common.{arith}
-use Rattle.run_wave.proofs.Runs.{length_cells_of_more, slots_within}
+use Rattle.std.proofs.Common.{arith, ◌≡◌, ◌+◌, length}
+use Rattle.run_wave.specs.Run.{cells_of}
+use Rattle.run_wave.proofs.Runs.{length_cells_of_more, single_slots, slots_within}
 use Rattle.run_wave.proofs.run_list.RunList.run_with.Goals as goal
 
 pub overflow_add-end : goal.overflow_add-end
@@ -22,3 +23,19 @@ loop-place-preserved g c =
       before = omega (arith, more, c.loop-place.invariant.before);
       reached = omega (arith, c.if-slot-end.false);
     }
+
+pub returns-then-len-from-clause-begun : goal.returns-then-len-from-clause-begun
+returns-then-len-from-clause-begun g c =
+    let rs = c.args.self.now.runs.items in
+    let counted = c.args.self.now.counted in
+    let each : length rs ≡ length (cells_of rs) = omega (arith, counted) in
+    let begun = single_slots rs c.from-then-len-from.result c.args.self.now.is_runs each (omega (arith, each, c.requires)) in
+    omega (arith, begun)
+
+pub returns-then-len-from-clause-end : goal.returns-then-len-from-clause-end
+returns-then-len-from-clause-end g c =
+    let rs = c.args.self.now.runs.items in
+    let counted = c.args.self.now.counted in
+    let each : length rs ≡ length (cells_of rs) = omega (arith, counted) in
+    let end = single_slots rs (c.from-then-len-from.result + 1) c.args.self.now.is_runs each (omega (arith, each, c.requires)) in
+    omega (arith, end)

@@ -1,21 +1,40 @@
-use Rattle.std.proofs.Common.{arith, ◌≡◌, ◌≤◌, ◌<◌, ◌+◌, ◌-◌, length, min, refl, ap, ◌∙◌}
+use Rattle.std.proofs.Common.{arith, ◌≡◌, ◌≤◌, ◌<◌, ◌+◌, ◌-◌, length, min, refl, ap, sym, ◌∙◌}
+use Rattle.std.proofs.lemmas.Result.{IfOk-weaker}
 use Rattle.wave_core.proofs.Slots.{length_slots}
-use Rattle.wave_core.specs.Slots.{fold_at}
+use Rattle.wave_core.specs.Slots.{fold_at, folded}
 use Rattle.run_wave.specs.Run.{cells_of}
 use Rattle.run_wave.proofs.Turned.{folded_none}
 use Rattle.run_wave.proofs.Doubled.{doubled_step}
 use Rattle.run_wave.proofs.run_wave.RunWaveCyclicWave.fold.Goals as goal
 
-pub loop-reach-init : goal.loop-reach-init
-loop-reach-init g c =
+pub returns-then-back-eq0 : goal.returns-then-back-eq0
+returns-then-back-eq0 g c =
+    let k = g.T.Cell.kind in
+    let xs = cells_of c.args.self.now.list.runs.items in
     let shortest = c.args.self.now.sized.shortest in
-    record {
-      so_far = c.in_ok-wave.ensures ∙ folded_none g.T.Cell.kind (cells_of c.args.self.now.list.runs.items) (omega (arith, shortest));
-      within = omega arith;
-    }
+    let none : c.args.back ≡ 0 = c.if-back-eq0.true in
+    IfOk-weaker c.copy.result (λ w. cells_of w.list.runs.items ≡ xs) (λ w. cells_of w.list.runs.items ≡ folded k xs c.args.back)
+    (λ w e. e ∙ folded_none k xs (omega (arith, shortest)) ∙ ap (folded k xs) (sym none))
+    c.copy.ensures
 
 pub joined_later-requires-clause-below : goal.joined_later-requires-clause-below
 joined_later-requires-clause-below g c =
+    let counted = c.args.self.now.list.counted in
+    omega (arith, counted, c.requires, c.if-back-eq0.false)
+
+pub loop-reach-init : goal.loop-reach-init
+loop-reach-init g c =
+    let k = g.T.Cell.kind in
+    let xs = cells_of c.args.self.now.list.runs.items in
+    let shortest = c.args.self.now.sized.shortest in
+    record {
+      so_far = doubled_step k g.met.T.Cell.laws xs xs (cells_of c.in_ok-wave.wave.list.runs.items) 0 1 1 (omega (arith, shortest))
+          (omega arith) (omega arith) (folded_none k xs (omega (arith, shortest))) c.in_ok-wave.ensures;
+      within = omega (arith, c.if-back-eq0.false);
+    }
+
+pub joined_later-requires-in-loop-reach-clause-below : goal.joined_later-requires-in-loop-reach-clause-below
+joined_later-requires-in-loop-reach-clause-below g c =
     let xs = cells_of c.args.self.now.list.runs.items in
     let by : c.min-by.result ≡ min (c.loop-reach.reach + 1) (c.args.back - c.loop-reach.reach) = grind arith in
     let long : length (cells_of c.loop-reach.wave.list.runs.items) ≡ length xs =
