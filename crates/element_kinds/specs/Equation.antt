@@ -1,4 +1,5 @@
--- What the output of each kind obeys at one tick, given what its pins show, and which ticks that names.
+-- What the output of each kind obeys at one tick, given what its pins show, and which ticks that
+-- names.
 use Rattle.std.specs.Prelude.{◌≡◌, ℕ, ◌+◌, ◌-◌, ◌^◌, ◌≤◌, Bool, true, false, not, ◌&&◌, if◌then◌else◌, List, [], ◌∷◌, length, map, take, All, slice_index_or, ⊤}
 use Rattle.std.specs.List.{list_any, list_all}
 use Rattle.scald_base.specs.Time.{Bounds}
@@ -110,14 +111,16 @@ EquationOf (Enabled forced) kind bounds delay signals output t =
     IsStored forced signals (t - delay) (latched signals (t - delay) (output (t - 1))) (output t)
 EquationOf (Checker check) kind bounds delay signals output t = ⊤
 
--- The pins' signals stand in their order, and the delay is the one of the run, which a change function has not. A
--- checker has no output.
+-- The pins' signals stand in their order, and the delay is the one of the run, which a change
+-- function has not. A checker has no output.
 abbrev pub Equation : Kind → Bounds → ℕ → List Signal → Signal → ℕ → Type 0
-Equation kind bounds delay signals output t = EquationOf (form_of kind) kind bounds delay signals output t
+Equation kind bounds delay signals output t =
+    EquationOf (form_of kind) kind bounds delay signals output t
 
 -- ---- the ticks that it names
 
--- how many ticks before t each pin's net is looked at, where all pins are looked at the delay before
+-- how many ticks before t each pin's net is looked at, where all pins are looked at the delay
+-- before
 abbrev pub pins_before : ℕ → List ℕ → List ℕ
 pins_before delay wires = map (λ wire. delay + wire) wires
 
@@ -129,16 +132,18 @@ clock_before delay wires = delay + 1 + slice_index_or wires 0 0
 abbrev pub named_by : Form → Bounds → ℕ → List ℕ → List ℕ
 named_by Gate bounds delay wires = pins_before delay wires
 named_by Change bounds delay wires = 1 ∷ pins_before (bounds.max + 1) wires
-named_by (Register forced) bounds delay wires = 1 ∷ clock_before delay wires ∷ pins_before delay wires
+named_by (Register forced) bounds delay wires =
+    1 ∷ clock_before delay wires ∷ pins_before delay wires
 named_by (Enabled forced) bounds delay wires = 1 ∷ pins_before delay wires
 named_by (Checker check) bounds delay wires = pins_before delay wires
 
--- How many ticks before t lie the ticks that the equation names, whatever the bits are. The wires' delays stand in the
--- order of the pins, 0 for a constant. A step at a tick names the tick before, too: a register's clock, and each pin
--- of a change function, of whose steps the earliest counts.
+-- How many ticks before t lie the ticks that the equation names, whatever the bits are. The wires'
+-- delays stand in the order of the pins, 0 for a constant. A step at a tick names the tick before,
+-- too: a register's clock, and each pin of a change function, of whose steps the earliest counts.
 abbrev pub named_before : Kind → Bounds → ℕ → List ℕ → List ℕ
 named_before kind bounds delay wires = named_by (form_of kind) bounds delay wires
 
--- An equation is asked only where every tick that it names is 0 or later: nothing is said of the start.
+-- An equation is asked only where every tick that it names is 0 or later: nothing is said of the
+-- start.
 abbrev pub IsAsked : Kind → Bounds → ℕ → List ℕ → ℕ → Type 0
 IsAsked kind bounds delay wires t = All (λ back. back ≤ t) (named_before kind bounds delay wires)

@@ -5,9 +5,12 @@ use Rattle.scald_base.specs.declared.assertion.ClockSpec.{ClockSpec}
 use Rattle.scald_base.specs.Time.{Header, period}
 use Rattle.scald_base.specs.Span.{holds_unit}
 
--- The clock without any skew, at a tick of the period: 1 in the units of its intervals, or 0 there where it is complemented.
+-- The clock without any skew, at a tick of the period: 1 in the units of its intervals, or 0 there
+-- where it is complemented.
 abbrev pub ideal : ClockSpec → Header → ℕ → Bool
-ideal c h tick = let inside = list_any (λ s. holds_unit s (tick / h.ticks)) c.spans in if c.low then not inside else inside
+ideal c h tick =
+    let inside = list_any (λ s. holds_unit s (tick / h.ticks)) c.spans in if c.low then not inside
+    else inside
 
 -- The slot o slots before a slot t, in a period of p slots: one slot back is p - 1 slots on.
 unfoldable pub back : ℕ → ℕ → ℕ → ℕ
@@ -20,7 +23,8 @@ pub record IsEdge (c : ClockSpec) (h : Header) (to : Bool) (slot : ℕ) : Type 0
   pub after : ideal c h slot ≡ to
 
 -- An edge may come so many ticks early and late: the slot is one of its region.
-pub record IsInRegion (c : ClockSpec) (h : Header) (early late : ℕ) (to : Bool) (edge slot : ℕ) : Type 0 where
+pub record IsInRegion (c : ClockSpec) (h : Header) (early late : ℕ) (to : Bool)
+    (edge slot : ℕ) : Type 0 where
   pub is_edge : IsEdge c h to edge
   pub by : ℕ
   pub near : by ≤ early + late

@@ -10,18 +10,21 @@ Rose before now = (before < now) ⊎ (now ≡ 2 ^ 64 - 1)
 abbrev pub next_count : ℕ → ℕ
 next_count n = min (n + 1) (2 ^ 64 - 1)
 
--- It rose by one, or stands at the greatest number: what a device promises that counts each fault once.
+-- It rose by one, or stands at the greatest number: what a device promises that counts each fault
+-- once.
 abbrev pub RoseByOne : ℕ → ℕ → Type 0
 RoseByOne before now = now ≡ next_count before
 
--- A failure comes only where the count of faults rose, success leaves the count as it was, and it never falls.
+-- A failure comes only where the count of faults rose, success leaves the count as it was, and it
+-- never falls.
 pub record CountsFaults {A E : Type 0} (before now : ℕ) (outcome : Result A E) : Type 0 where
   pub failed : OnErr outcome (Rose before now)
   pub steady : OnOk outcome (now ≡ before)
   pub later : before ≤ now
 
--- The source gave n bytes into the room's front. Where it tells what it has left, they were the first of that: none
--- only where there was no room, or nothing left; and after them the room is as it was.
+-- The source gave n bytes into the room's front. Where it tells what it has left, they were the
+-- first of that: none only where there was no room, or nothing left; and after them the room is as
+-- it was.
 pub record Gives (left left' : Option (List ℕ)) (room room' : List ℕ) (n : ℕ) : Type 0 where
   pub fits : n ≤ length room'
   pub bytes : Consumes left left' (take n room')

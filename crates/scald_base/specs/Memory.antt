@@ -2,7 +2,8 @@
 use Rattle.std.specs.Prelude.{ℕ, ◌+◌, ◌-◌, ◌<◌, ◌≤◌, min, List, ◌++◌, Contains, length, take, drop, ◌⊎◌}
 use Rattle.scald_base.specs.Device.{next_count}
 
--- What is left to read, how many bytes a call gives at most, which calls fail, and how many calls and failures there were.
+-- What is left to read, how many bytes a call gives at most, which calls fail, and how many calls
+-- and failures there were.
 pub record SourceState : Type 0 where
   pub left : List ℕ
   pub piece : ℕ
@@ -10,8 +11,8 @@ pub record SourceState : Type 0 where
   pub calls : ℕ
   pub faults : ℕ
 
--- What was taken, how many bytes there is room for, how many a call takes at most, which calls fail, and how many calls
--- and failures there were.
+-- What was taken, how many bytes there is room for, how many a call takes at most, which calls
+-- fail, and how many calls and failures there were.
 pub record SinkState : Type 0 where
   pub taken : List ℕ
   pub room : ℕ

@@ -28,8 +28,10 @@ pub record IsWord (word : List ℕ) : Type 0 where
 -- words that are no labels, kinds, macros, parameters, constants, variables or names of drawings
 abbrev pub reserved_words : List (List ℕ)
 reserved_words =
-    codes "SCALD" ∷ codes "CLOCK" ∷ codes "WIRE" ∷ codes "PSKEW" ∷ codes "CSKEW" ∷ codes "MACRO" ∷ codes "DRAWING"
-    ∷ codes "CASE" ∷ codes "IF" ∷ codes "THEN" ∷ codes "ELSE" ∷ codes "END" ∷ codes "ZERO" ∷ codes "ONE" ∷ []
+    codes "SCALD" ∷ codes "CLOCK" ∷ codes "WIRE" ∷ codes "PSKEW" ∷ codes "CSKEW" ∷ codes "MACRO"
+    ∷ codes "DRAWING"
+    ∷ codes "CASE" ∷ codes "IF" ∷ codes "THEN" ∷ codes "ELSE" ∷ codes "END" ∷ codes "ZERO"
+    ∷ codes "ONE" ∷ []
 
 abbrev pub is_reserved : List ℕ → Bool
 is_reserved word = list_any (bytes_eq word) reserved_words

@@ -13,8 +13,8 @@ impl Span {
     ghost use Rattle.std.specs.Prelude.{◌≡◌, ◌↔◌, IsTrue};
     ghost use Rattle.scald_base.specs.Span.{SpanFits, span_fits};
 
-    /// Whether the interval is one of a period of so many units: it begins in the period, ends in it
-    /// or at its end, and is not empty.
+    /// Whether the interval is one of a period of so many units: it begins in the period, ends in
+    /// it or at its end, and is not empty.
     pub fn fits(self, units: u16) -> bool
         ensures test { result ≡ span_fits units self }
         ensures is { IsTrue result ↔ SpanFits units self }

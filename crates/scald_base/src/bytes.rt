@@ -21,7 +21,8 @@ pub fn same_bytes(text: &[u8], other: &[u8]) -> bool
 
 /// Bytes of a text, or of a name in it, which contracts see as the list of them.
 ///
-/// Most are words of a few letters, so up to 16 bytes lie in the value itself, and only more take memory.
+/// Most are words of a few letters, so up to 16 bytes lie in the value itself, and only more take
+/// memory.
 #[derive(Drop, Debug)]
 pub struct Bytes {
     items: SmallVec<u8, 16>,

@@ -51,11 +51,29 @@ impl Model for Header {
 
     ghost Value = { Said };
 
-    ghost view = { λ h. record { units = h.units; ticks = h.ticks; wire = h.wire; pskew = h.pskew; cskew = h.cskew } };
+    ghost view = { λ h. record {
+      units = h.units;
+      ticks = h.ticks;
+      wire = h.wire;
+      pskew = h.pskew;
+      cskew = h.cskew;
+    } };
 
-    ghost invariant = { λ h. IsHeader (record { units = h.units; ticks = h.ticks; wire = h.wire; pskew = h.pskew; cskew = h.cskew }) };
+    ghost invariant = { λ h. IsHeader (record {
+      units = h.units;
+      ticks = h.ticks;
+      wire = h.wire;
+      pskew = h.pskew;
+      cskew = h.cskew;
+    }) };
 
-    ghost inverse = { λ h. record { units = h.units; ticks = h.ticks; wire = h.wire; pskew = h.pskew; cskew = h.cskew } };
+    ghost inverse = { λ h. record {
+      units = h.units;
+      ticks = h.ticks;
+      wire = h.wire;
+      pskew = h.pskew;
+      cskew = h.cskew;
+    } };
 }
 
 impl Header {

@@ -4,8 +4,8 @@
 //!
 //! A text is read with `read_all`, and an answer is written with `write_all`. `specs/Device` says
 //! what a source and a sink promise, and `specs/Memory` what those in memory do at each call;
-//! `specs/Time`, `Span`, `Clock`, `Quiet` and `Fitting` say what an assertion means on the ticks of a
-//! period, and `specs/Signal` what a signal is.
+//! `specs/Time`, `Span`, `Clock`, `Quiet` and `Fitting` say what an assertion means on the ticks of
+//! a period, and `specs/Signal` what a signal is.
 #![tactic(auto)]
 
 mod assertion;

@@ -110,7 +110,8 @@ impl<T: Drop> List<T> {
         ensures ok { OnOk result (self.new ≡ self.old ++ item ∷ []) }
         ensures err { OnErr result (self.new ≡ self.old) }
     {
-        // Most lists of a drawing have one item or two, and items can be large: room is made for 1, 2 and then 4.
+        // Most lists of a drawing have one item or two, and items can be large: room is made for 1,
+        // 2 and then 4.
         if self.items.len() < 2 {
             self.items.reserve_exact(1)?;
         }

@@ -41,10 +41,17 @@ impl Model for MemorySource {
 }
 
 impl MemorySource {
-    /// A source of these bytes. Call n, from 0, fails where n is in `failing`. It needs no allocation.
+    /// A source of these bytes. Call n, from 0, fails where n is in `failing`. It needs no
+    /// allocation.
     pub fn new(bytes: Bytes, piece: u32, failing: Calls) -> MemorySource
         requires { 1 ≤ piece }
-        ensures { result ≡ record { left = bytes; piece = piece; failing = failing; calls = 0; faults = 0 } }
+        ensures { result ≡ record {
+          left = bytes;
+          piece = piece;
+          failing = failing;
+          calls = 0;
+          faults = 0;
+        } }
     {
         MemorySource {
             bytes,
@@ -79,7 +86,8 @@ impl Source for MemorySource {
     ghost rises = { RoseByOne };
 
     fn read(&mut self, room: &mut [u8]) -> Result<usize, Failed>
-        ensures gives { IfOk result (λ n. Gives (Some self.old.left) (Some self.new.left) room.old room.new n) }
+        ensures gives { IfOk result (λ n.
+            Gives (Some self.old.left) (Some self.new.left) room.old room.new n) }
         ensures kept { OnErr result (Keeps (Some self.old.left) (Some self.new.left)) }
         ensures faults { CountsFaults self.old.faults self.new.faults result }
         ensures rises { OnErr result (RoseByOne self.old.faults self.new.faults) }
@@ -134,12 +142,19 @@ impl Model for MemorySink {
 }
 
 impl MemorySink {
-    /// An empty sink with room for so many bytes, for which it takes memory now. A call whose number,
-    /// from 0, is in `failing` fails, and so does each that finds no room.
+    /// An empty sink with room for so many bytes, for which it takes memory now. A call whose
+    /// number, from 0, is in `failing` fails, and so does each that finds no room.
     pub fn new(alloc: Global, room: u32, piece: u32, failing: Calls) -> Result<MemorySink, NoMemory>
         requires { 1 ≤ piece }
         ensures { IfOk result (λ sink. sink ≡
-            record { taken = []; room = room; piece = piece; failing = failing; calls = 0; faults = 0 }) }
+            record {
+              taken = [];
+              room = room;
+              piece = piece;
+              failing = failing;
+              calls = 0;
+              faults = 0;
+            }) }
     {
         Ok(MemorySink {
             bytes: vec![in alloc; 0; room as usize]?,
@@ -167,7 +182,8 @@ impl Sink for MemorySink {
     ghost rises = { RoseByOne };
 
     fn write(&mut self, piece: &[u8]) -> Result<usize, Failed>
-        ensures takes { IfOk result (λ n. Takes (Some self.old.taken) (Some self.new.taken) piece.now n) }
+        ensures takes { IfOk result (λ n.
+            Takes (Some self.old.taken) (Some self.new.taken) piece.now n) }
         ensures kept { OnErr result (Keeps (Some self.old.taken) (Some self.new.taken)) }
         ensures faults { CountsFaults self.old.faults self.new.faults result }
         ensures rises { OnErr result (RoseByOne self.old.faults self.new.faults) }

@@ -20,8 +20,8 @@ pub enum Outcome {
     /// The rounds do not settle in the limit, which is `round`. The net, by its position in name
     /// order from 0, is the first that still changes: the line that names it is written.
     Unsettled { net: u32, round: u32 },
-    /// The words are unrecognised. The number is that of the first with which no form continues, from
-    /// 0, or the count of words where one is missing. Nothing is read or written.
+    /// The words are unrecognised. The number is that of the first with which no form continues,
+    /// from 0, or the count of words where one is missing. Nothing is read or written.
     BadWords(u32),
     /// More bytes came than a text may have. Nothing is written.
     TooLong,

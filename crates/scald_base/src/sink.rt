@@ -19,8 +19,8 @@ pub trait Sink {
     ghost rises: { ℕ → ℕ → Type 0 } = { Rose };
 
     /// Takes bytes from the front of the piece, and says how many: at least one where there is one.
-    /// `Failed` comes only where the count of faults rose. Where the sink tells its bytes, they grew
-    /// by exactly those, and by none where the write failed.
+    /// `Failed` comes only where the count of faults rose. Where the sink tells its bytes, they
+    /// grew by exactly those, and by none where the write failed.
     fn write(&mut self, piece: &[u8]) -> Result<usize, Failed>
         ensures takes { IfOk result (λ n. Takes (taken self.old) (taken self.new) piece.now n) }
         ensures kept { OnErr result (Keeps (taken self.old) (taken self.new)) }

@@ -20,12 +20,13 @@ pub trait Source {
     /// it; one that says how far promises it here.
     ghost rises: { ℕ → ℕ → Type 0 } = { Rose };
 
-    /// Reads bytes into the front of the room, and says how many. `Ok(0)` on a room that is not empty
-    /// is the end. `Failed` comes only where the count of faults rose. Where the source tells its
-    /// bytes, those that came were the first, none come exactly where the room is empty or no byte is
-    /// left, and nothing was read where the read failed.
+    /// Reads bytes into the front of the room, and says how many. `Ok(0)` on a room that is not
+    /// empty is the end. `Failed` comes only where the count of faults rose. Where the source tells
+    /// its bytes, those that came were the first, none come exactly where the room is empty or no
+    /// byte is left, and nothing was read where the read failed.
     fn read(&mut self, room: &mut [u8]) -> Result<usize, Failed>
-        ensures gives { IfOk result (λ n. Gives (left self.old) (left self.new) room.old room.new n) }
+        ensures gives { IfOk result (λ n.
+            Gives (left self.old) (left self.new) room.old room.new n) }
         ensures kept { OnErr result (Keeps (left self.old) (left self.new)) }
         ensures faults { CountsFaults (faults self.old) (faults self.new) result }
         ensures rises { OnErr result (rises (faults self.old) (faults self.new)) };

@@ -52,9 +52,9 @@ impl<R: Read> Source for StdSource<R> {
     }
 }
 
-/// A sink over a standard writer. Each call asks the writer once, for the whole piece. Each error of
-/// the writer is a failure, and so is a write that takes none of some bytes; the next call asks it
-/// again.
+/// A sink over a standard writer. Each call asks the writer once, for the whole piece. Each error
+/// of the writer is a failure, and so is a write that takes none of some bytes; the next call asks
+/// it again.
 #[derive(Drop)]
 pub struct StdSink<W: Write> {
     writer: W,

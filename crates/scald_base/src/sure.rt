@@ -48,7 +48,8 @@ impl Source for SureSource {
     ghost faults = { λ s. 0 };
 
     fn read(&mut self, room: &mut [u8]) -> Result<usize, Failed>
-        ensures gives { IfOk result (λ n. Gives (Some self.old) (Some self.new) room.old room.new n) }
+        ensures gives { IfOk result (λ n.
+            Gives (Some self.old) (Some self.new) room.old room.new n) }
         ensures kept { OnErr result (Keeps (Some self.old) (Some self.new)) }
         ensures faults { CountsFaults 0 0 result }
         ensures never_fails { IsOk result }
@@ -98,7 +99,8 @@ impl Sink for CountSink {
     ghost faults = { λ s. 0 };
 
     fn write(&mut self, piece: &[u8]) -> Result<usize, Failed>
-        ensures takes { IfOk result (λ n. Takes None None piece.now n) }
+        ensures takes { IfOk result (λ n.
+            Takes None None piece.now n) }
         ensures kept { OnErr result (Keeps None None) }
         ensures faults { CountsFaults 0 0 result }
         ensures never_fails { IsOk result }

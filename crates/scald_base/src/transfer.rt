@@ -54,16 +54,20 @@ impl From<Failed> for WriteFault {
 /// How many bytes one read asks for at most.
 const ROOM: usize = 4096;
 
-/// Reads to the end of input. It answers `TooLong` where more than `limit` bytes come, and reads only
-/// one past them; `ReadFault` at the first read that fails, after which it reads no more; and
+/// Reads to the end of input. It answers `TooLong` where more than `limit` bytes come, and reads
+/// only one past them; `ReadFault` at the first read that fails, after which it reads no more; and
 /// `NoMemory`. What is said of bytes is proved where the source tells them.
 pub fn read_all<S: Source>(alloc: Global, source: &mut S, limit: u32) -> Result<Bytes, ReadEnd>
     requires { limit < 2 ^ 32 - 1 }
-    ensures ok { IfOk result (λ bytes. ReadsAll (S.left source.old) (S.left source.new) limit bytes) }
-    ensures too_long { IsErrOf result ReadEnd.TooLong → ReadsPast (S.left source.old) (S.left source.new) limit }
+    ensures ok { IfOk result (λ bytes.
+        ReadsAll (S.left source.old) (S.left source.new) limit bytes) }
+    ensures too_long { IsErrOf result ReadEnd.TooLong →
+        ReadsPast (S.left source.old) (S.left source.new) limit }
     ensures err { OnErr result (ReadsFront (S.left source.old) (S.left source.new) limit) }
-    ensures fault { IsErrOf result ReadEnd.ReadFault → Rose (S.faults source.old) (S.faults source.new) }
-    ensures steady { ¬ IsErrOf result ReadEnd.ReadFault → S.faults source.new ≡ S.faults source.old }
+    ensures fault { IsErrOf result ReadEnd.ReadFault →
+        Rose (S.faults source.old) (S.faults source.new) }
+    ensures steady { ¬ IsErrOf result ReadEnd.ReadFault →
+        S.faults source.new ≡ S.faults source.old }
     ensures once { IsErrOf result ReadEnd.ReadFault →
         S.rises (S.faults source.old) (S.faults source.new) }
     ensures later { S.faults source.old ≤ S.faults source.new }
@@ -85,8 +89,8 @@ pub fn read_all<S: Source>(alloc: Global, source: &mut S, limit: u32) -> Result<
     }
 }
 
-/// Writes all bytes. It answers `WriteFault` at the first write that fails, after which it writes no
-/// more: where the sink tells its bytes, it took a front of these, and not all.
+/// Writes all bytes. It answers `WriteFault` at the first write that fails, after which it writes
+/// no more: where the sink tells its bytes, it took a front of these, and not all.
 pub fn write_all<K: Sink>(sink: &mut K, bytes: &[u8]) -> Result<(), WriteFault>
     ensures ok { OnOk result (Appends (K.taken sink.old) (K.taken sink.new) bytes.now) }
     ensures err { OnErr result (TakesFront (K.taken sink.old) (K.taken sink.new) bytes.now) }

@@ -11,8 +11,8 @@ use std::env::Args;
 /// The words after the program's name.
 pub type Words = List<Bytes>;
 
-/// The words of a program that is called with these arguments, of which the first is its name: all others,
-/// byte for byte, empty ones too.
+/// The words of a program that is called with these arguments, of which the first is its name: all
+/// others, byte for byte, empty ones too.
 pub fn words_of(alloc: Global, arguments: Args) -> Result<Words, NoMemory>
     ensures { IfOk result (λ words. words ≡ map string_bytes (drop 1 (into_iter_items arguments))) }
 {

@@ -40,19 +40,26 @@ at_value p h One = left (p One) _ (right (p Zero) _ h)
 at_value p h S = left (p S) _ (right (p One) _ (right (p Zero) _ h))
 at_value p h C = left (p C) _ (right (p S) _ (right (p One) _ (right (p Zero) _ h)))
 at_value p h R = left (p R) _ (right (p C) _ (right (p S) _ (right (p One) _ (right (p Zero) _ h))))
-at_value p h F = left (p F) _ (right (p R) _ (right (p C) _ (right (p S) _ (right (p One) _ (right (p Zero) _ h)))))
-at_value p h U = right (p F) _ (right (p R) _ (right (p C) _ (right (p S) _ (right (p One) _ (right (p Zero) _ h)))))
+at_value p h F =
+    left (p F) _ (right (p R) _ (right (p C) _ (right (p S) _
+    (right (p One) _ (right (p Zero) _ h)))))
+at_value p h U =
+    right (p F) _ (right (p R) _ (right (p C) _ (right (p S) _
+    (right (p One) _ (right (p Zero) _ h)))))
 
 pub at_bit : (p : Bool → Bool) → each_bit p ≡ true → (b : Bool) → p b ≡ true
 at_bit p h false = left (p false) _ h
 at_bit p h true = right (p false) _ h
 
-pub at_values : (p : Value → Value → Bool) → each_value (λ v. each_value (p v)) ≡ true → (v w : Value) → p v w ≡ true
+pub at_values : (p : Value → Value → Bool) → each_value (λ v. each_value (p v)) ≡ true →
+    (v w : Value) → p v w ≡ true
 at_values p h v w = at_value (p v) (at_value (λ u. each_value (p u)) h v) w
 
-pub at_step : (p : Bool → Bool → Bool) → each_bit (λ a. each_bit (p a)) ≡ true → (before after : Bool) → p before after ≡ true
+pub at_step : (p : Bool → Bool → Bool) → each_bit (λ a. each_bit (p a)) ≡ true →
+    (before after : Bool) → p before after ≡ true
 at_step p h before after = at_bit (p before) (at_bit (λ a. each_bit (p a)) h before) after
 
 -- two tests of two values are one where they agree at each
-pub tests_are : (p q : Value → Value → Bool) → each_value (λ v. each_value (λ w. agree (p v w) (q v w))) ≡ true → (v w : Value) → p v w ≡ q v w
+pub tests_are : (p q : Value → Value → Bool) →
+    each_value (λ v. each_value (λ w. agree (p v w) (q v w))) ≡ true → (v w : Value) → p v w ≡ q v w
 tests_are p q h v w = agree_is (p v w) (q v w) (at_values (λ v w. agree (p v w) (q v w)) h v w)

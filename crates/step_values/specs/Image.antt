@@ -1,6 +1,6 @@
--- What each kind of element makes of its arguments. Its image is the set of the steps of its output over all choices
--- of one permitted step for each argument, and its value is the cover of the image. A name with a prime is the bit
--- after the step, and the name without it the bit before.
+-- What each kind of element makes of its arguments. Its image is the set of the steps of its output
+-- over all choices of one permitted step for each argument, and its value is the cover of the
+-- image. A name with a prime is the bit after the step, and the name without it the bit before.
 use Rattle.std.specs.Prelude.{Bool, true, false, not, ◌&&◌, ◌||◌, if◌then◌else◌}
 use Rattle.step_values.specs.declared.value.Value.{Value}
 use Rattle.step_values.specs.Steps.{Steps, has, cover, is_unknown}
@@ -24,14 +24,16 @@ image1 rule v before after = some_step v (λ b b'. rule b b' before after)
 unfoldable pub image2 : (Bool → Bool → Bool → Bool → Steps) → Value → Value → Steps
 image2 rule v w before after = some_step v (λ b b'. image1 (rule b b') w before after)
 
-unfoldable pub image3 : (Bool → Bool → Bool → Bool → Bool → Bool → Steps) → Value → Value → Value → Steps
+unfoldable pub image3 : (Bool → Bool → Bool → Bool → Bool → Bool → Steps) → Value → Value →
+    Value → Steps
 image3 rule u v w before after = some_step u (λ b b'. image2 (rule b b') v w before after)
 
-unfoldable pub image4 : (Bool → Bool → Bool → Bool → Bool → Bool → Bool → Bool → Steps) → Value → Value → Value → Value → Steps
+unfoldable pub image4 : (Bool → Bool → Bool → Bool → Bool → Bool → Bool → Bool → Steps) → Value →
+    Value → Value → Value → Steps
 image4 rule t u v w before after = some_step t (λ b b'. image3 (rule b b') u v w before after)
 
--- Gates: the output follows from the pins at the same tick. A rule is named for the step that it makes of one step of
--- each pin.
+-- Gates: the output follows from the pins at the same tick. A rule is named for the step that it
+-- makes of one step of each pin.
 
 abbrev pub and_step : Bool → Bool → Bool → Bool → Steps
 and_step a a' b b' = one_step (a && b) (a' && b')
@@ -67,7 +69,8 @@ mux2_image = image3 mux2_step
 
 -- Storage: a rule says which output it allows at a tick after which output at the tick before.
 
--- A register keeps its output, but where its clock rises it takes in its input, which is left open here.
+-- A register keeps its output, but where its clock rises it takes in its input, which is left open
+-- here.
 abbrev pub reg_rule : Bool → Bool → Steps
 reg_rule clock clock' before after = (not clock && clock') || agree before after
 
@@ -83,10 +86,12 @@ set_reset true true rest output = true
 set_reset false false rest output = rest
 
 abbrev pub reg_rs_rule : Bool → Bool → Bool → Bool → Steps
-reg_rs_rule clock clock' set reset before after = set_reset set reset (reg_rule clock clock' before after) after
+reg_rs_rule clock clock' set reset before after =
+    set_reset set reset (reg_rule clock clock' before after) after
 
 abbrev pub latch_rs_rule : Bool → Bool → Bool → Bool → Steps
-latch_rs_rule enable input set reset before after = set_reset set reset (latch_rule enable input before after) after
+latch_rs_rule enable input set reset before after =
+    set_reset set reset (latch_rule enable input before after) after
 
 -- the rule allows this output after some other
 abbrev pub allowed : Steps → Bool → Bool
@@ -99,11 +104,14 @@ any_clock rule before after = some_bit (λ earlier. rule earlier before after)
 -- The output before a step is one that the rule allowed at the tick before.
 
 abbrev pub reg_step : Bool → Bool → Steps
-reg_step clock clock' before after = allowed (any_clock (λ earlier. reg_rule earlier clock)) before && reg_rule clock clock' before after
+reg_step clock clock' before after =
+    allowed (any_clock (λ earlier. reg_rule earlier clock)) before
+    && reg_rule clock clock' before after
 
 abbrev pub reg_rs_step : Bool → Bool → Bool → Bool → Bool → Bool → Steps
 reg_rs_step clock clock' set set' reset reset' before after =
-    allowed (any_clock (λ earlier. reg_rs_rule earlier clock set reset)) before && reg_rs_rule clock clock' set' reset' before after
+    allowed (any_clock (λ earlier. reg_rs_rule earlier clock set reset)) before
+    && reg_rs_rule clock clock' set' reset' before after
 
 abbrev pub latch_step : Bool → Bool → Bool → Bool → Steps
 latch_step enable enable' input input' before after =
@@ -111,7 +119,8 @@ latch_step enable enable' input input' before after =
 
 abbrev pub latch_rs_step : Bool → Bool → Bool → Bool → Bool → Bool → Bool → Bool → Steps
 latch_rs_step enable enable' input input' set set' reset reset' before after =
-    allowed (latch_rs_rule enable input set reset) before && latch_rs_rule enable' input' set' reset' before after
+    allowed (latch_rs_rule enable input set reset) before
+    && latch_rs_rule enable' input' set' reset' before after
 
 unfoldable pub reg_image : Value → Steps
 reg_image = image1 reg_step
@@ -137,17 +146,20 @@ unfoldable pub xor_of : Value → Value → Value
 xor_of a b = cover (xor_image a b) (is_unknown a || is_unknown b)
 
 unfoldable pub mux2_of : Value → Value → Value → Value
-mux2_of select a b = cover (mux2_image select a b) (is_unknown select || is_unknown a || is_unknown b)
+mux2_of select a b =
+    cover (mux2_image select a b) (is_unknown select || is_unknown a || is_unknown b)
 
 unfoldable pub reg_of : Value → Value
 reg_of clock = cover (reg_image clock) (is_unknown clock)
 
 unfoldable pub reg_rs_of : Value → Value → Value → Value
-reg_rs_of clock set reset = cover (reg_rs_image clock set reset) (is_unknown clock || is_unknown set || is_unknown reset)
+reg_rs_of clock set reset =
+    cover (reg_rs_image clock set reset) (is_unknown clock || is_unknown set || is_unknown reset)
 
 unfoldable pub latch_of : Value → Value → Value
 latch_of enable input = cover (latch_image enable input) (is_unknown enable || is_unknown input)
 
 unfoldable pub latch_rs_of : Value → Value → Value → Value → Value
 latch_rs_of enable input set reset =
-    cover (latch_rs_image enable input set reset) (is_unknown enable || is_unknown input || is_unknown set || is_unknown reset)
+    cover (latch_rs_image enable input set reset)
+    (is_unknown enable || is_unknown input || is_unknown set || is_unknown reset)

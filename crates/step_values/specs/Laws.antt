@@ -15,12 +15,14 @@ abbrev pub CoverPermits : Type 0
 CoverPermits = (steps : Steps) (unknown : Bool) → Within steps (has (cover steps unknown))
 
 abbrev pub CoverIsLeast : Type 0
-CoverIsLeast = (steps : Steps) (unknown : Bool) (w : Value) → IsInhabited steps → Within steps (has w) →
+CoverIsLeast =
+    (steps : Steps) (unknown : Bool) (w : Value) → IsInhabited steps → Within steps (has w) →
     Within (has (cover steps unknown)) (has w)
 
 abbrev pub CoverIsUnknown : Type 0
 CoverIsUnknown = (steps : Steps) (unknown : Bool) →
-    is_unknown (cover steps unknown) ≡ (steps false false && steps false true && steps true false && steps true true && unknown)
+    is_unknown (cover steps unknown) ≡ (steps false false && steps false true && steps true false
+    && steps true true && unknown)
 
 abbrev pub JoinPermits : Type 0
 JoinPermits = (v w : Value) → Within (has v) (has (join v w)) × Within (has w) (has (join v w))
@@ -30,10 +32,13 @@ JoinIsLeast = (v w above : Value) → Within (has v) (has above) → Within (has
     Within (has (join v w)) (has above)
 
 abbrev pub FlipComplements : Type 0
-FlipComplements = (v : Value) (before after : Bool) → has (flip v) (not before) (not after) ≡ has v before after
+FlipComplements =
+    (v : Value) (before after : Bool) → has (flip v) (not before) (not after) ≡ has v before after
 
 abbrev pub QuietKeeps : Type 0
-QuietKeeps = (v : Value) (before after : Bool) → is_quiet v ≡ true → has v before after ≡ true → before ≡ after
+QuietKeeps =
+    (v : Value) (before after : Bool) → is_quiet v ≡ true → has v before after ≡ true → before
+    ≡ after
 
 abbrev pub CoverReturns : Type 0
 CoverReturns = (v : Value) → cover (has v) (is_unknown v) ≡ v

@@ -17,8 +17,8 @@ has F before after = before || not after
 has C before after = true
 has U before after = true
 
--- The least of 0, 1, S, R, F and C that permits the steps 00, 01, 10, 11 that are there. Where all four are, and
--- an argument was unknown, it is U. No value permits no step at all.
+-- The least of 0, 1, S, R, F and C that permits the steps 00, 01, 10, 11 that are there. Where all
+-- four are, and an argument was unknown, it is U. No value permits no step at all.
 abbrev pub cover_of : Bool → Bool → Bool → Bool → Bool → Value
 cover_of true true true true true = U
 cover_of s00 true true s11 unknown = C
@@ -29,7 +29,8 @@ cover_of true false false false unknown = Zero
 cover_of false false false s11 unknown = One
 
 abbrev pub cover : Steps → Bool → Value
-cover steps unknown = cover_of (steps false false) (steps false true) (steps true false) (steps true true) unknown
+cover steps unknown =
+    cover_of (steps false false) (steps false true) (steps true false) (steps true true) unknown
 
 abbrev pub is_unknown : Value → Bool
 is_unknown U = true
@@ -41,7 +42,8 @@ is_quiet v = not (has v false true) && not (has v true false)
 
 -- The least value above both; nothing is known of it where nothing is known of one of them.
 abbrev pub join : Value → Value → Value
-join v w = cover (λ before after. has v before after || has w before after) (is_unknown v || is_unknown w)
+join v w =
+    cover (λ before after. has v before after || has w before after) (is_unknown v || is_unknown w)
 
 -- the value of the complement
 abbrev pub flip : Value → Value

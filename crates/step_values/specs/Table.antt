@@ -1,5 +1,5 @@
--- Tables of values: an entry for each choice of the arguments, in the order 0, 1, S, C, R, F, U, the last argument
--- going round first.
+-- Tables of values: an entry for each choice of the arguments, in the order 0, 1, S, C, R, F, U,
+-- the last argument going round first.
 use Rattle.std.specs.Prelude.{◌≡◌, ℕ, ◌+◌, ◌*◌, List, slice_index_or}
 use Rattle.step_values.specs.declared.value.Value.{Value}
 use Rattle.step_values.specs.declared.value.Value.TheVariants.{Zero, One, S, C, R, F, U}

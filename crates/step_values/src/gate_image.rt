@@ -42,7 +42,8 @@ fn mux2_with_select(wanted: bool, select: Step, a: Value, b: Value) -> StepSet
 /// Those of one step of the select and of the first input.
 #[tactic(auto, unfolding(crate::specs::Image::image1))]
 fn mux2_with_input(wanted: bool, a: Step, select: Step, b: Value) -> StepSet
-    ensures { IsSet result (only_if wanted (image1 (mux2_step select.before select.after a.before a.after) b)) }
+    ensures { IsSet result
+        (only_if wanted (image1 (mux2_step select.before select.after a.before a.after) b)) }
 {
     if wanted {
         each_step!(b, mux2_step(select, a))

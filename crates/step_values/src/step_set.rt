@@ -41,8 +41,8 @@ impl Step {
     };
 }
 
-/// A set of steps in a byte: bit 1 for the step from 0 to 0, 2 for 0 to 1, 4 for 1 to 0, 8 for 1 to 1.
-/// A contract sees the byte.
+/// A set of steps in a byte: bit 1 for the step from 0 to 0, 2 for 0 to 1, 4 for 1 to 0, 8 for 1 to
+/// 1. A contract sees the byte.
 #[derive(Clone, Copy, PartialEq, Eq, Debug)]
 pub struct StepSet {
     bits: u8,

@@ -57,7 +57,8 @@ fn latch_with(wanted: bool, enable: Step, input: Value) -> StepSet
 
 /// Those of one step of each.
 fn latch_step(wanted: bool, input: Step, enable: Step) -> StepSet
-    ensures { IsSet result (only_if wanted (latch_step enable.before enable.after input.before input.after)) }
+    ensures { IsSet result
+        (only_if wanted (latch_step enable.before enable.after input.before input.after)) }
 {
     let earlier = latch_steps(enable.before, input.before);
     earlier
@@ -85,7 +86,8 @@ fn reg_rs_image(clock: Value, set: Value, reset: Value) -> StepSet
 /// Those of one step of the clock.
 #[tactic(auto, unfolding(crate::specs::Image::image2))]
 fn reg_rs_with_clock(wanted: bool, clock: Step, set: Value, reset: Value) -> StepSet
-    ensures { IsSet result (only_if wanted (image2 (reg_rs_step clock.before clock.after) set reset)) }
+    ensures { IsSet result
+        (only_if wanted (image2 (reg_rs_step clock.before clock.after) set reset)) }
 {
     if wanted {
         each_step!(set, reg_rs_with_set(clock, reset))
@@ -97,7 +99,9 @@ fn reg_rs_with_clock(wanted: bool, clock: Step, set: Value, reset: Value) -> Ste
 /// Those of one step of the clock and of set.
 #[tactic(auto, unfolding(crate::specs::Image::image1))]
 fn reg_rs_with_set(wanted: bool, set: Step, clock: Step, reset: Value) -> StepSet
-    ensures { IsSet result (only_if wanted (image1 (reg_rs_step clock.before clock.after set.before set.after) reset)) }
+    ensures { IsSet result
+        (only_if wanted
+        (image1 (reg_rs_step clock.before clock.after set.before set.after) reset)) }
 {
     if wanted {
         each_step!(reset, reg_rs_step(clock, set))
@@ -109,7 +113,8 @@ fn reg_rs_with_set(wanted: bool, set: Step, clock: Step, reset: Value) -> StepSe
 /// Those of one step of each.
 fn reg_rs_step(wanted: bool, reset: Step, clock: Step, set: Step) -> StepSet
     ensures { IsSet result
-        (only_if wanted (reg_rs_step clock.before clock.after set.before set.after reset.before reset.after)) }
+        (only_if wanted
+        (reg_rs_step clock.before clock.after set.before set.after reset.before reset.after)) }
 {
     let earlier = earlier_reg_rs_steps(clock.before, set.before, reset.before);
     earlier
@@ -144,7 +149,8 @@ fn latch_rs_with_enable(
     set: Value,
     reset: Value,
 ) -> StepSet
-    ensures { IsSet result (only_if wanted (image3 (latch_rs_step enable.before enable.after) input set reset)) }
+    ensures { IsSet result
+        (only_if wanted (image3 (latch_rs_step enable.before enable.after) input set reset)) }
 {
     if wanted {
         each_step!(input, latch_rs_with_input(enable, set, reset))

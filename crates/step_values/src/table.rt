@@ -6,8 +6,8 @@ ghost use Rattle.step_values.specs.Table.{entry2, entry3, entry4, number};
 use crate::value::Value;
 
 /// An entry for each choice of two values (49), of three (343) or of four (2,401). The values are
-/// numbered 0, 1, S, C, R, F, U from 0 to 6, and the entries are ordered by the first value, then by
-/// the next.
+/// numbered 0, 1, S, C, R, F, U from 0 to 6, and the entries are ordered by the first value, then
+/// by the next.
 #[derive(Clone, Copy, PartialEq, Eq, Debug)]
 pub struct Table<const N: usize> {
     /// The entries in that order.

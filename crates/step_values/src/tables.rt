@@ -19,7 +19,8 @@ macro_rules! table {
     }};
 }
 
-// The values as tables show them: by the letter that the report has for each, but `O` for 0 and `I` for 1.
+// The values as tables show them: by the letter that the report has for each, but `O` for 0 and `I`
+// for 1.
 const O: Value = Value::Zero;
 
 const I: Value = Value::One;

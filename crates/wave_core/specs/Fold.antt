@@ -1,5 +1,5 @@
--- How a fold is put together, block by block of back + 1 slots: the last cells of one block joined with the
--- first cells of the next.
+-- How a fold is put together, block by block of back + 1 slots: the last cells of one block joined
+-- with the first cells of the next.
 use Rattle.std.specs.Prelude.{ℕ, ◌+◌, ◌*◌, ◌-◌, List, length}
 use Rattle.wave_core.specs.Cell.{Cells}
 use Rattle.wave_core.specs.Slots.{earlier, join_to, slots}

@@ -16,7 +16,8 @@ slots_from (suc n) i f = f i ∷ slots_from n (i + 1) f
 abbrev pub slots : {T : Type 0} → ℕ → (ℕ → T) → List T
 slots n f = slots_from n 0 f
 
--- The slots from one on to before another have one cell, and the slot where they end has another cell, if it is in the list.
+-- The slots from one on to before another have one cell, and the slot where they end has another
+-- cell, if it is in the list.
 pub record SameUntil {T : Type 0} (cells : List T) (slot end : ℕ) : Type 0 where
   pub behind : slot < end
   pub within : end ≤ length cells
@@ -31,18 +32,22 @@ earlier k cells t o = slice_index_or cells (back (length cells) t o) k.any
 abbrev pub cell_round : {T : Type 0} → Cells T → List T → ℕ → T
 cell_round k cells t = earlier k cells t 0
 
--- A test gives this of each cell at the places `first` to before `end`, of which place 0 is slot `from`, round the period.
+-- A test gives this of each cell at the places `first` to before `end`, of which place 0 is slot
+-- `from`, round the period.
 abbrev pub Gives : {T : Type 0} → Cells T → List T → (T → Bool → Type 0) → ℕ → ℕ → ℕ → Bool → Type 0
-Gives k cells test from first end answer = (place : ℕ) → first ≤ place → place < end → test (cell_round k cells (from + place)) answer
+Gives k cells test from first end answer =
+    (place : ℕ) → first ≤ place → place < end → test (cell_round k cells (from + place)) answer
 
 -- The cell at this place, of `count` places, passes the test, and none at a place before it does.
-pub record IsFirstWhere {T : Type 0} (k : Cells T) (cells : List T) (test : T → Bool → Type 0) (from count place : ℕ) : Type 0 where
+pub record IsFirstWhere {T : Type 0} (k : Cells T) (cells : List T) (test : T → Bool → Type 0)
+    (from count place : ℕ) : Type 0 where
   pub within : place < count
   pub passes : test (cell_round k cells (from + place)) true
   pub before : Gives k cells test from 0 place false
 
 -- that place, or none passes
-abbrev pub FirstWhere : {T : Type 0} → Cells T → List T → (T → Bool → Type 0) → ℕ → ℕ → Option ℕ → Type 0
+abbrev pub FirstWhere : {T : Type 0} → Cells T → List T → (T → Bool → Type 0) → ℕ → ℕ →
+    Option ℕ → Type 0
 FirstWhere k cells test from count None = Gives k cells test from 0 count false
 FirstWhere k cells test from count (Some place) = IsFirstWhere k cells test from count place
 

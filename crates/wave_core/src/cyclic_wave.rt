@@ -35,8 +35,8 @@ pub trait CyclicWave: Sized + Drop {
         requires { slot < length (cells self.now) }
         ensures { slice_get (cells self.now) slot ≡ Some result };
 
-    /// The first slot after this one that has another cell than it, or the period where there is none:
-    /// what is read off the cells from slot to slot may go on there.
+    /// The first slot after this one that has another cell than it, or the period where there is
+    /// none: what is read off the cells from slot to slot may go on there.
     fn same_until(&self, slot: u16) -> u16
         requires { slot < length (cells self.now) }
         ensures { SameUntil (cells self.now) slot result }
@@ -82,7 +82,8 @@ pub trait CyclicWave: Sized + Drop {
         requires callable { F.IsAlwaysCallable f }
         requires periods { length (cells self.now) ≡ length (cells other.now) }
         ensures { IfOk result (λ w.
-            AllZip (λ p d. F.post f p.0 p.1 d) (zip (cells self.now) (cells other.now)) (cells w)) };
+            AllZip (λ p d. F.post f p.0 p.1 d) (zip (cells self.now) (cells other.now))
+            (cells w)) };
 
     /// The wave whose slot p has the join of the cells at the slots p - back to p.
     fn fold(&self, alloc: Global, back: u16) -> Result<Self, NoMemory>

@@ -5,9 +5,9 @@ ghost use Rattle.wave_core.specs.Slots.{FirstWhere};
 
 use crate::cyclic_wave::CyclicWave;
 
-/// The first of `count` places whose cell passes a test, or `None` where none of them does: the cell
-/// at a place is that of slot `from + place`, counted round the period. The test is asked once for
-/// slots in a row that have one cell.
+/// The first of `count` places whose cell passes a test, or `None` where none of them does: the
+/// cell at a place is that of slot `from + place`, counted round the period. The test is asked once
+/// for slots in a row that have one cell.
 pub fn first_where<W: CyclicWave, F: Fn(W::Item) -> bool>(
     wave: &W,
     from: u16,
@@ -17,7 +17,8 @@ pub fn first_where<W: CyclicWave, F: Fn(W::Item) -> bool>(
     requires callable { F.IsAlwaysCallable test }
     requires from { from < length (W.cells wave.now) }
     requires count { count ≤ 2 * length (W.cells wave.now) }
-    ensures { FirstWhere W.Item.kind (W.cells wave.now) (λ c passes. F.post test c passes) from count result }
+    ensures { FirstWhere W.Item.kind (W.cells wave.now)
+        (λ c passes. F.post test c passes) from count result }
 {
     let period = wave.period();
     let mut place = 0;

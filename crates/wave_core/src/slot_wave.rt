@@ -36,7 +36,8 @@ impl<T: Cell + Drop> SlotWave<T> {
 
     /// Appends the cells of the wave that comes `by` slots later.
     fn push_later(&self, cells: &mut Vec<T>, by: usize) -> Result<(), NoMemory>
-        ensures { OnOk result (cells.new.items ≡ cells.old.items ++ later T.kind self.now.cells.items by) }
+        ensures { OnOk result (cells.new.items ≡ cells.old.items
+            ++ later T.kind self.now.cells.items by) }
     {
         let period = self.cells.len();
         let begin = period - by % period;
@@ -55,7 +56,8 @@ impl<T: Cell + Drop> SlotWave<T> {
         Ok(line)
     }
 
-    /// The cell `back` slots before a slot of this period or the next, where `line` has those cells.
+    /// The cell `back` slots before a slot of this period or the next, where `line` has those
+    /// cells.
     fn cell_before(&self, line: &[T], slot: usize, back: usize) -> T
         requires line { line.now ≡ line_of T.kind self.now.cells.items back }
         requires near { slot < 2 * length self.now.cells.items }
@@ -65,7 +67,8 @@ impl<T: Cell + Drop> SlotWave<T> {
     }
 
     /// Puts the joins of the last cells of the block that begins at slot `from` in place of what
-    /// was in `tails`: of its last cell, of its last two cells, and so on to all `back + 1` of them.
+    /// was in `tails`: of its last cell, of its last two cells, and so on to all `back + 1` of
+    /// them.
     fn find_tails(
         &self,
         tails: &mut Vec<T>,
@@ -102,10 +105,13 @@ impl<T: Cell + Drop> SlotWave<T> {
         requires line { line.now ≡ line_of T.kind self.now.cells.items back }
         requires near { length cells.old.items < length self.now.cells.items }
         requires within { back < length self.now.cells.items }
-        requires so_far { cells.old.items ≡ slots (length cells.old.items) (fold_at T.kind self.now.cells.items back) }
-        requires tails { tails.now ≡ tails_of T.kind self.now.cells.items back (length cells.old.items) }
+        requires so_far { cells.old.items ≡ slots (length cells.old.items)
+            (fold_at T.kind self.now.cells.items back) }
+        requires tails { tails.now ≡ tails_of T.kind self.now.cells.items back
+            (length cells.old.items) }
         ensures { OnOk result
-            (cells.new.items ≡ slots (min (length cells.old.items + (back + 1)) (length self.now.cells.items))
+            (cells.new.items ≡ slots (min (length cells.old.items + (back + 1))
+            (length self.now.cells.items))
             (fold_at T.kind self.now.cells.items back)) }
     {
         let from = cells.len();
