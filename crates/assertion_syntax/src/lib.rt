@@ -5,6 +5,7 @@
 //! each tick. `specs/Name` says which names there are and how each is spelled.
 #![tactic(auto)]
 
+mod base;
 mod fitting;
 mod meaning;
 mod name;

@@ -10,6 +10,7 @@ ghost use Rattle.assertion_syntax.specs.declared.name.NameEnd.TheVariants.{BadNa
 ghost use Rattle.assertion_syntax.specs.Name.{is_base_byte, well_spaced, IsTextOf};
 ghost use Rattle.assertion_syntax.specs.Reading.{Gives, literal_at, digits_at, number_at, limited_at, pair_at, span_at, spans_at, parted_at, skew_at, low_at, edges_at, clock_at, stable_at, assertion_at, base_len, base_at, global_at, name_at};
 
+use crate::base::{base_alone, is_base, is_base_byte};
 use crate::name::{NameEnd, SignalName};
 use scald_base::{AssertSpec, Bytes, ClockSpec, NoMemory, Span, Spans};
 use std::alloc::Global;
@@ -20,6 +21,11 @@ pub fn read_name(alloc: Global, text: &[u8]) -> Result<SignalName, NameEnd>
     ensures found { IfOk result (λ n. IsTextOf n text.now) }
     ensures none { IfErr result (λ e. e ≡ BadName → (n : SignalName) → ¬ IsTextOf n text.now) }
 {
+    // Most names are a base alone, which one look at each byte tells.
+    if is_base(text) {
+        let name = base_alone(alloc, text)?;
+        return Ok(name);
+    }
     match name(alloc, text)? {
         Some(read) => Ok(read),
         None => Err(NameEnd::BadName),
@@ -223,13 +229,6 @@ fn assertion(alloc: Global, rest: &[u8]) -> Result<Option<AssertSpec>, NoMemory>
         },
         None => Ok(None),
     }
-}
-
-/// Whether a base may have this byte.
-fn is_base_byte(byte: u8) -> bool
-    ensures { result ≡ is_base_byte byte }
-{
-    byte.is_ascii_alphanumeric() || matches!(byte, b' ' | b'_' | b'#' | b'$')
 }
 
 /// How many bytes in front may be a base's.

@@ -155,6 +155,7 @@ pub fn word_terminal(word: &[u8]) -> Terminal
 
 /// What the grammar takes a symbol for.
 #[tactic(auto, unfolding(crate::specs::Lexeme::symbol_terminal))]
+#[inline(always)]
 pub fn symbol_terminal(byte: u8) -> Terminal
     ensures { result ≡ symbol_terminal byte }
 {

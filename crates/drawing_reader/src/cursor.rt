@@ -23,6 +23,7 @@ pub struct Cursor<'a> {
 }
 
 /// The bytes of a text from a place to another, as far as it has them.
+#[inline(always)]
 pub fn between<'a>(text: &'a [u8], from: usize, to: usize) -> &'a [u8]
     ensures { result.now ≡ slice_range text.now from to }
 {
@@ -32,6 +33,7 @@ pub fn between<'a>(text: &'a [u8], from: usize, to: usize) -> &'a [u8]
 }
 
 /// The bytes of a token.
+#[inline(always)]
 pub fn text_of<'a>(text: &'a [u8], token: Token) -> &'a [u8]
     ensures { result.now ≡ slice_range text.now token.start token.end }
 {
@@ -49,6 +51,7 @@ fn first_text<'a>(text: &'a [u8], tokens: &[PackedToken]) -> &'a [u8]
 }
 
 /// What the grammar takes a token of a text for.
+#[inline(always)]
 pub fn terminal_of(text: &[u8], token: Token) -> Terminal
     ensures { result ≡ terminal (lexeme_of text.now token) }
 {
@@ -64,6 +67,7 @@ pub fn terminal_of(text: &[u8], token: Token) -> Terminal
 
 impl<'a> Cursor<'a> {
     /// What the grammar takes the next token for.
+    #[inline(always)]
     pub fn look(&self) -> Terminal
         ensures { result ≡ first_terminal (tokens_at self.now) }
     {
@@ -91,6 +95,7 @@ impl<'a> Cursor<'a> {
     }
 
     /// The next token, or `None` where none is left.
+    #[inline(always)]
     pub fn peek(&self) -> Option<Token>
         ensures { result ≡ first_token self.now.rest.now }
     {
@@ -101,6 +106,7 @@ impl<'a> Cursor<'a> {
     }
 
     /// Goes past the next token, where one is left.
+    #[inline(always)]
     pub fn advance(&mut self)
         ensures rest { self.new.rest.now ≡ other_tokens self.old.rest.now }
         ensures no_longer { length self.new.rest.now ≤ length self.old.rest.now }
@@ -113,6 +119,7 @@ impl<'a> Cursor<'a> {
     }
 
     /// Whether the next token is this terminal.
+    #[inline(always)]
     pub fn starts(&self, terminal: Terminal) -> bool
         ensures yes { IsTrue result → first_terminal (tokens_at self.now) ≡ terminal }
         ensures no { IsFalse result → first_terminal (tokens_at self.now) ≢ terminal }
@@ -121,6 +128,7 @@ impl<'a> Cursor<'a> {
     }
 
     /// Takes the next token, where one is left.
+    #[inline(always)]
     pub fn bump(&mut self) -> Token
         ensures shorter { first_terminal (tokens_at self.old) ≢ EndOfText →
             length self.new.rest.now < length self.old.rest.now }

@@ -1,8 +1,7 @@
 //! The names of a text.
 
 ghost use Rattle.std.specs.Prelude.{◌≡◌, ◌↔◌, ◌∷◌, [], IsTrue, IfOk, IfErr, MatchResult, MatchOption, false};
-ghost use Rattle.std.specs.List.{list_all};
-ghost use Rattle.assertion_syntax.specs.Name.{IsBase, is_base_byte, well_spaced};
+ghost use Rattle.assertion_syntax.specs.Name.{IsBase, is_base_byte};
 ghost use Rattle.scald_base.specs.Fitting.{Fits};
 ghost use Rattle.drawing_grammar.specs.Lexeme.{lexeme_of, lexemes, terminal};
 ghost use Rattle.drawing_reader.specs.Known.{IsKnown};
@@ -57,38 +56,29 @@ fn is_base_byte(byte: u8) -> bool
     byte.is_ascii_alphanumeric() || matches!(byte, b' ' | b'_' | b'#' | b'$')
 }
 
-fn are_base_bytes(text: &[u8]) -> bool
-    ensures { result ≡ list_all is_base_byte text.now }
-{
-    text.iter().all(|byte| is_base_byte(*byte))
-}
-
-/// Whether each space stands between two other bytes, and some byte is there.
-fn is_well_spaced(text: &[u8]) -> bool
-    ensures { result ≡ well_spaced false text.now }
-{
-    let mut after_byte = false;
-    'bytes: for byte in text {
-        let is_space = *byte == b' ';
-        if is_space && !after_byte {
-            return false;
-        }
-        after_byte = !is_space;
-    }
-    after_byte
-}
-
-/// Whether a text is a base, as most names are: such a name may stand anywhere.
+/// Whether a text is a base, as most names are: such a name may stand anywhere. Each byte is looked
+/// at once.
 fn is_bare(text: &[u8]) -> bool
     ensures { IsTrue result → IsBase text.now }
 {
     if text.len() > 64 {
         return false;
     }
-    if !are_base_bytes(text) {
-        return false;
+    let mut after_byte = false;
+    'bytes: for byte in text {
+        if *byte == b' ' {
+            if !after_byte {
+                return false;
+            }
+            after_byte = false;
+        } else {
+            if !is_base_byte(*byte) {
+                return false;
+            }
+            after_byte = true;
+        }
     }
-    is_well_spaced(text)
+    after_byte
 }
 
 /// Whether a name outside of a head is the one that is known.

@@ -94,10 +94,19 @@ fn add_all(pins: &mut Pins, connection: &Joined) -> Result<(), NoMemory>
     Ok(())
 }
 
+/// How many bits the connections have together: the room for their pins.
+fn bit_count(connections: &[Joined]) -> usize {
+    let mut count: usize = 0;
+    for connection in connections {
+        count = count.saturating_add(connection.bits.len());
+    }
+    count
+}
+
 fn all_pins(alloc: Global, ins: &[Joined]) -> Result<Pins, NoMemory>
     ensures { IfOk result (λ pins. pins ≡ flat_map all_refs ins.now) }
 {
-    let mut pins = Pins::with_room(alloc, ins.len())?;
+    let mut pins = Pins::with_room(alloc, bit_count(ins))?;
     for connection in ins {
         add_all(&mut pins, connection)?;
     }

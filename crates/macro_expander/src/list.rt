@@ -72,7 +72,7 @@ impl<T: Drop> Row<T> {
 pub fn copied<T: Copy>(alloc: Global, items: &[T]) -> Result<List<T>, NoMemory>
     ensures { IfOk result (λ copies. copies ≡ items.now) }
 {
-    let mut copies = List::new(alloc);
+    let mut copies = List::with_room(alloc, items.len())?;
     for item in items {
         copies.push(*item)?;
     }

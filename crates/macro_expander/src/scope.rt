@@ -194,7 +194,7 @@ fn outer_bits(alloc: Global, bound: &Bound, chosen: &[u16], place: Place) -> Res
     requires { HasRun bound.now }
     ensures { JudgedAt place result (spec_outer_bits bound.now.numbers bound.now.bits chosen.now) }
 {
-    let mut bits = List::new(alloc);
+    let mut bits = List::with_room(alloc, chosen.len())?;
     for number in chosen {
         match outer_bit(bound.numbers.as_slice(), bound.bits.as_slice(), *number) {
             Some(bit) => bits.push(bit)?,

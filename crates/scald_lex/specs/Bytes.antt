@@ -1,4 +1,5 @@
--- Which bytes a text may hold, and what each may stand for. Letters, digits and the bytes of a word are those of scald_base's words.
+-- Which bytes a text may hold, and what each may stand for. Letters, digits and the bytes of a word
+-- are those of scald_base's words.
 use Rattle.std.specs.Prelude.{ℕ, ◌+◌, ◌-◌, ◌*◌, Bool, not, ◌&&◌, ◌||◌, ◌==◌, nat_le, List, [], ◌∷◌, codes}
 use Rattle.std.specs.List.{list_any}
 

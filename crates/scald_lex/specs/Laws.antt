@@ -18,7 +18,8 @@ OneList = (text : List ℕ) (a b : List Token) → AreTokens text a → AreToken
 
 -- A text that has tokens is not refused.
 abbrev pub NotBoth : Type 0
-NotBoth = (text : List ℕ) (tokens : List Token) (r : Refusal) → AreTokens text tokens → ¬ IsRefused text r
+NotBoth =
+    (text : List ℕ) (tokens : List Token) (r : Refusal) → AreTokens text tokens → ¬ IsRefused text r
 
 -- A text is refused for one reason, at one place.
 abbrev pub OneRefusal : Type 0
@@ -84,7 +85,8 @@ TokensStand = (text : List ℕ) (tokens : List Token) → AreTokens text tokens 
 abbrev pub TokensAreLongest : Type 0
 TokensAreLongest =
     (rest : List ℕ) (kind : TokenKind) (count : ℕ) → piece_at rest ≡ Some (Lexeme kind count) →
-    (other : TokenKind) (more : ℕ) → count < more → more ≤ length rest → ¬ Spells other (take more rest)
+    (other : TokenKind) (more : ℕ) → count < more → more ≤ length rest →
+    ¬ Spells other (take more rest)
 
 -- A refusal has the place of a byte, or of the end.
 abbrev pub RefusalsArePlaced : Type 0
@@ -92,4 +94,6 @@ RefusalsArePlaced = (text : List ℕ) (r : Refusal) → IsRefused text r → IsP
 
 -- A token has the place of a byte, or of the end.
 abbrev pub TokensArePlaced : Type 0
-TokensArePlaced = (text : List ℕ) (tokens : List Token) → AreTokens text tokens → All (λ t. IsPlaceOf text t.place) tokens
+TokensArePlaced =
+    (text : List ℕ) (tokens : List Token) → AreTokens text tokens →
+    All (λ t. IsPlaceOf text t.place) tokens

@@ -1,4 +1,5 @@
--- The kind of a token as a number of 64 bits: a number as itself, all else above the greatest number of a token.
+-- The kind of a token as a number of 64 bits: a number as itself, all else above the greatest
+-- number of a token.
 use Rattle.std.specs.Prelude.{ℕ, ◌==◌, ◌%◌, nat_le, if◌then◌else◌, pos, negsuc, ⊤}
 use Rattle.scald_lex.specs.declared.token.TokenKind.{TokenKind}
 use Rattle.scald_lex.specs.declared.token.TokenKind.TheVariants.{Word, Number, Name, Arrow, Symbol, End}

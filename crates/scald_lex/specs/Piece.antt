@@ -1,4 +1,5 @@
--- What stands in front of a rest of a text: a piece that is no token, or the longest token that is there.
+-- What stands in front of a rest of a text: a piece that is no token, or the longest token that is
+-- there.
 use Rattle.std.specs.Prelude.{ℕ, ◌+◌, Bool, false, ◌==◌, nat_le, if◌then◌else◌, List, [], ◌∷◌, take, drop, Option, Some, None, pos}
 use Rattle.std.specs.List.{prefix_len}
 use Rattle.scald_base.specs.Word.{is_letter, is_digit, is_word_byte, longest_word}
@@ -22,14 +23,16 @@ word_at rest =
     let count = prefix_len is_word_byte rest in
     if nat_le count longest_word then Some (Lexeme Word count) else None
 
--- A number goes as far as digits do, and is not too large. Its value counts, and not how it is written.
+-- A number goes as far as digits do, and is not too large. Its value counts, and not how it is
+-- written.
 unfoldable pub number_at : List ℕ → Option Piece
 number_at rest =
     let count = prefix_len is_digit rest in
     let value = value_of (take count rest) in
     if nat_le value greatest_number then Some (Lexeme (Number (pos value)) count) else None
 
--- Behind a quote: a name goes up to the next quote, with nothing before that may not stand in a name.
+-- Behind a quote: a name goes up to the next quote, with nothing before that may not stand in a
+-- name.
 unfoldable pub name_behind : List ℕ → Option Piece
 name_behind rest =
     let count = prefix_len is_name_byte rest in

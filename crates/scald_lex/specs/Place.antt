@@ -10,7 +10,9 @@ first_place = record { line = 1; col = 1 }
 
 -- the place after a byte: the next line's first where it ends the line
 abbrev pub next_place : Place → ℕ → Place
-next_place p b = if b == line_end then record { line = p.line + 1; col = 1 } else record { line = p.line; col = p.col + 1 }
+next_place p b =
+    if b == line_end then record { line = p.line + 1; col = 1 }
+    else record { line = p.line; col = p.col + 1 }
 
 -- the place after these bytes
 abbrev pub place_behind : Place → List ℕ → Place

@@ -1,4 +1,5 @@
--- The tokens of a text, or why it has none. A text is cut into pieces from its first byte on, each the one that stands in front.
+-- The tokens of a text, or why it has none. A text is cut into pieces from its first byte on, each
+-- the one that stands in front.
 use Rattle.std.specs.Prelude.{◌≡◌, ℕ, ◌+◌, ◌<◌, true, false, List, [], ◌∷◌, ◌++◌, length, drop, slice_index, Some, None}
 use Rattle.scald_base.specs.declared.refusal.Refusal.{Refusal}
 use Rattle.scald_base.specs.declared.refusal.RefusalKind.TheVariants.{BadByte, BadToken}
@@ -20,14 +21,16 @@ size (Lexeme kind count) = count
 -- From this byte on the text is these pieces, up to that byte.
 abbrev pub IsCut : List ℕ → ℕ → List Piece → ℕ → Type 0
 IsCut text from [] to = from ≡ to
-IsCut text from (p ∷ ps) to = (piece_at (drop from text) ≡ Some p) × IsCut text (from + size p) ps to
+IsCut text from (p ∷ ps) to =
+    (piece_at (drop from text) ≡ Some p) × IsCut text (from + size p) ps to
 
 -- Spaces and comments are no token.
 abbrev pub token_of : List ℕ → ℕ → Piece → List Token
 token_of text at Space = []
 token_of text at LineEnd = []
 token_of text at (Comment count) = []
-token_of text at (Lexeme kind count) = record { kind = kind; place = place_at text at; start = at; end = at + count } ∷ []
+token_of text at (Lexeme kind count) =
+    record { kind = kind; place = place_at text at; start = at; end = at + count } ∷ []
 
 abbrev pub tokens_of : List ℕ → ℕ → List Piece → List Token
 tokens_of text at [] = []
@@ -35,7 +38,13 @@ tokens_of text at (p ∷ ps) = token_of text at p ++ tokens_of text (at + size p
 
 -- after the last byte
 abbrev pub end_token : List ℕ → Token
-end_token text = record { kind = End; place = place_at text (length text); start = length text; end = length text }
+end_token text =
+    record {
+      kind = End;
+      place = place_at text (length text);
+      start = length text;
+      end = length text;
+    }
 
 -- Every byte is allowed.
 abbrev pub IsAllowed : List ℕ → Type 0
@@ -64,5 +73,7 @@ pub record IsBadToken (text : List ℕ) (at : ℕ) : Type 0 where
 
 -- The text is refused so.
 pub data IsRefused (text : List ℕ) (r : Refusal) : Type 0 where
-  bad_byte : (at : ℕ) → IsBadByte text at → r ≡ record { kind = BadByte; place = place_at text at } → IsRefused text r
-  bad_token : (at : ℕ) → IsBadToken text at → r ≡ record { kind = BadToken; place = place_at text at } → IsRefused text r
+  bad_byte : (at : ℕ) → IsBadByte text at →
+      r ≡ record { kind = BadByte; place = place_at text at } → IsRefused text r
+  bad_token : (at : ℕ) → IsBadToken text at →
+      r ≡ record { kind = BadToken; place = place_at text at } → IsRefused text r

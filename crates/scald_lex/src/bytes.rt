@@ -1,4 +1,5 @@
-//! What a byte of a text may stand for. The symbols `(` to `-` are neighbours, and so are `:` to `>`.
+//! What a byte of a text may stand for. The symbols `(` to `-` are neighbours, and so are `:` to
+//! `>`.
 
 ghost use Rattle.std.specs.Prelude.{◌≡◌};
 ghost use Rattle.scald_base.specs.Word.{is_letter, is_digit, is_word_byte};

@@ -23,7 +23,8 @@ pub fn tokens_or_refusal()
     ensures { TokensOrRefusal }
 {}
 
-/// The last token is the end, and those before it stand in order: each is a text of its kind, at its place.
+/// The last token is the end, and those before it stand in order: each is a text of its kind, at
+/// its place.
 pub fn tokens_stand()
     ensures { TokensStand }
 {}
@@ -43,13 +44,14 @@ pub fn tokens_are_placed()
     ensures { TokensArePlaced }
 {}
 
-/// The tokens of a text are those that stand apart in it: blanks and comments lie between them, and nothing else.
+/// The tokens of a text are those that stand apart in it: blanks and comments lie between them, and
+/// nothing else.
 pub fn tokens_are_apart()
     ensures { TokensAreApart }
 {}
 
-/// A text is refused as `BadToken` exactly at its first cause: a name that is not closed, a word or number
-/// that is too long, or a byte that begins no token.
+/// A text is refused as `BadToken` exactly at its first cause: a name that is not closed, a word or
+/// number that is too long, or a byte that begins no token.
 pub fn bad_token_at_first_cause()
     ensures { BadTokenAtFirstCause }
 {}

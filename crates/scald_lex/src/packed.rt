@@ -9,8 +9,8 @@ use scald_base::{List, NoMemory, Place};
 use std::alloc::Global;
 use std::marker::Model;
 
-/// What the kinds that are no number are coded as: all above the greatest number of a token. That of a
-/// symbol is the last of these and its byte.
+/// What the kinds that are no number are coded as: all above the greatest number of a token. That
+/// of a symbol is the last of these and its byte.
 const WORD: u64 = 9223372036854775808;
 
 const NAME: u64 = 9223372036854775809;
@@ -21,8 +21,8 @@ const END: u64 = 9223372036854775811;
 
 const SYMBOL: u64 = 9223372036854776064;
 
-/// A token in 24 bytes. A large drawing is read from as many of them as it has tokens, and they are the
-/// most of what reading it takes. Contracts see it as the token.
+/// A token in 24 bytes. A large drawing is read from as many of them as it has tokens, and they are
+/// the most of what reading it takes. Contracts see it as the token.
 #[derive(Drop)]
 pub struct PackedToken {
     code: u64,
@@ -37,7 +37,12 @@ impl Model for PackedToken {
 
     ghost Value = { Token };
 
-    ghost view = { λ t. record { kind = kind_by t.code; place = t.place; start = t.start; end = t.end } };
+    ghost view = { λ t. record {
+      kind = kind_by t.code;
+      place = t.place;
+      start = t.start;
+      end = t.end;
+    } };
 }
 
 /// The tokens of a text, the last of which is its end.
@@ -45,6 +50,7 @@ pub type PackedList = List<PackedToken>;
 
 /// The number of a kind.
 #[tactic(auto, unfolding(crate::specs::Packed::kind_by))]
+#[inline(always)]
 fn code_of(kind: TokenKind) -> u64
     requires { HasCode kind }
     ensures { kind_by result ≡ kind }
@@ -61,6 +67,7 @@ fn code_of(kind: TokenKind) -> u64
 
 /// The kind that has this number.
 #[tactic(auto, unfolding(crate::specs::Packed::kind_by))]
+#[inline(always)]
 fn kind_by(code: u64) -> TokenKind
     ensures { result ≡ kind_by code }
 {
@@ -81,6 +88,7 @@ fn kind_by(code: u64) -> TokenKind
 
 impl PackedToken {
     /// This token, whose number, if it is one, is not negative.
+    #[inline(always)]
     pub(crate) fn new(token: Token) -> PackedToken
         requires { HasCode token.kind }
         ensures { result ≡ token }
@@ -94,6 +102,7 @@ impl PackedToken {
     }
 
     /// The token.
+    #[inline(always)]
     pub fn token(&self) -> Token
         ensures { result ≡ self.now }
     {

@@ -17,7 +17,8 @@ use crate::token::{Token, TokenKind, TokenList};
 use scald_base::{NoMemory, Place, RefusalKind, Stop};
 use std::alloc::Global;
 
-/// The tokens of the text as `packed_tokens` gives them, each with its kind. It takes memory for both lists.
+/// The tokens of the text as `packed_tokens` gives them, each with its kind. It takes memory for
+/// both lists.
 pub fn tokens(alloc: Global, text: &[u8]) -> Result<TokenList, Stop>
     requires { length text.now < 2 ^ 32 - 1 }
     ensures found { IfOk result (λ list. AreTokens text.now list) }
@@ -36,9 +37,10 @@ pub fn tokens(alloc: Global, text: &[u8]) -> Result<TokenList, Stop>
     }
 }
 
-/// The tokens of the text, the last of which is its end. Refused are, with their places, `BadByte` before
-/// any token is looked at, and `BadToken` where no token begins, or one that is too long, too large or not
-/// closed. A refusal has the place of a byte of the text. It takes memory for the list alone.
+/// The tokens of the text, the last of which is its end. Refused are, with their places, `BadByte`
+/// before any token is looked at, and `BadToken` where no token begins, or one that is too long,
+/// too large or not closed. A refusal has the place of a byte of the text. It takes memory for the
+/// list alone.
 pub fn packed_tokens(alloc: Global, text: &[u8]) -> Result<PackedList, Stop>
     requires { length text.now < 2 ^ 32 - 1 }
     ensures found { IfOk result (λ list. AreTokens text.now list) }
@@ -67,8 +69,8 @@ fn read(alloc: Global, text: &[u8]) -> Result<PackedList, Stop>
     scan.finish()
 }
 
-/// Whether a text holds no byte that none may hold. All bytes are looked at, so that the processor takes
-/// several at once.
+/// Whether a text holds no byte that none may hold. All bytes are looked at, so that the processor
+/// takes several at once.
 fn are_allowed(text: &[u8]) -> bool
     ensures { IsTrue result → IsAllowed text.now }
 {
@@ -180,6 +182,7 @@ impl Scan {
     }
 
     /// Goes so many bytes further on the line.
+    #[inline(always)]
     fn move_on(&mut self, count: usize)
         requires at { self.old.at + count < 2 ^ 32 }
         requires col { self.old.place.col + count < 2 ^ 32 }
@@ -195,6 +198,7 @@ impl Scan {
     }
 
     /// Goes past the end of the line.
+    #[inline(always)]
     fn end_line(&mut self)
         requires at { self.old.at + 1 < 2 ^ 32 }
         requires line { self.old.place.line + 1 < 2 ^ 32 }
@@ -212,6 +216,7 @@ impl Scan {
     }
 
     /// Lists the token of this kind that stands here.
+    #[inline(always)]
     fn push(&mut self, kind: TokenKind, count: usize) -> Result<(), NoMemory>
         requires fits { self.old.at + count < 2 ^ 32 }
         requires coded { HasCode kind }
@@ -238,7 +243,12 @@ impl Scan {
     fn finish(mut self) -> Result<PackedList, Stop>
         requires { self.at < 2 ^ 32 }
         ensures found { IfOk result (λ list.
-            list ≡ self.list ++ record { kind = End; place = self.place; start = self.at; end = self.at } ∷ []) }
+            list ≡ self.list ++ record {
+              kind = End;
+              place = self.place;
+              start = self.at;
+              end = self.at;
+            } ∷ []) }
         ensures refused { IfErr result (λ stop. stop ≡ OutOfMemory) }
     {
         self.push(TokenKind::End, 0)?;

@@ -19,8 +19,8 @@ pub enum TokenKind {
     End,
 }
 
-/// A token: its kind, the place of its first byte, and the bytes of the text that it is, from `start` up
-/// to `end`.
+/// A token: its kind, the place of its first byte, and the bytes of the text that it is, from
+/// `start` up to `end`.
 #[derive(Clone, Copy, PartialEq, Eq, Debug)]
 pub struct Token {
     pub kind: TokenKind,
