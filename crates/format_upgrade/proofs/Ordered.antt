@@ -7,7 +7,7 @@ use Rattle.drawing_tree.specs.Tree.{Statement, Statements, cons, listed, stateme
 use Rattle.format_upgrade.specs.declared.turned.Order.{Order}
 use Rattle.format_upgrade.specs.declared.turned.Order.TheVariants.{Kept, Reversed}
 use Rattle.format_upgrade.specs.Upgraded.{turned_statement, upgraded}
-use Rattle.format_upgrade.specs.Order.{in_order_statement, in_order_statements, in_order_macro}
+use Rattle.format_upgrade.specs.Order.{in_order_drawing, in_order_statement, in_order_statements, in_order_macro}
 
 -- each by itself is all together
 pub listed_in_order : (o : Order) (ss : List Statement) → listed (map (in_order_statement o) ss) ≡ in_order_statements o (listed ss)
@@ -71,11 +71,11 @@ reversed_all f copies xs n i all so_far =
 
 -- ---- a drawing
 
-abbrev pub in_order_drawing : Order → Drawing → Drawing
-in_order_drawing o d = record d { version = 2; macros = map (in_order_macro o) d.macros; body = in_order_statements o d.body }
-
-pub upgraded_first : (o : Order) (d : Drawing) → o ≡ Reversed → (d.version == 1) ≡ true → in_order_drawing o d ≡ upgraded d
+pub upgraded_first : (o : Order) (d : Drawing) → o ≡ Reversed → (d.version == 1) ≡ true → in_order_drawing 2 o d ≡ upgraded d
 upgraded_first o d is h = rw (is, h) refl
 
-pub upgraded_second : (o : Order) (d : Drawing) → o ≡ Kept → (d.version == 1) ≡ false → in_order_drawing o d ≡ upgraded d
+pub upgraded_second : (o : Order) (d : Drawing) → o ≡ Kept → (d.version == 1) ≡ false → in_order_drawing 2 o d ≡ upgraded d
 upgraded_second o d is h = rw (is, h) (ap (λ (ms : List Macro). record d { version = 2; macros = ms }) (map-id d.macros))
+
+pub kept_same : (d : Drawing) → in_order_drawing d.version Kept d ≡ d
+kept_same d = ap (λ (ms : List Macro). record d { macros = ms }) (map-id d.macros)

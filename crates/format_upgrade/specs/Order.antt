@@ -1,6 +1,6 @@
 -- Statements with their selects as they stand, or in the other order.
-use Rattle.std.specs.Prelude.{ℕ, List}
-use Rattle.drawing_tree.specs.Tree.{Connection, UseStatement, Statement, Statements, Macro}
+use Rattle.std.specs.Prelude.{ℕ, List, map}
+use Rattle.drawing_tree.specs.Tree.{Connection, UseStatement, Statement, Statements, Macro, Drawing}
 use Rattle.format_upgrade.specs.declared.turned.Order.{Order}
 use Rattle.format_upgrade.specs.declared.turned.Order.TheVariants.{Kept, Reversed}
 use Rattle.format_upgrade.specs.Upgraded.{turned_ins, turned_use, turned_statement, turned_statements, turned_macro}
@@ -24,3 +24,11 @@ in_order_statements Reversed ss = turned_statements ss
 abbrev pub in_order_macro : Order → Macro → Macro
 in_order_macro Kept m = m
 in_order_macro Reversed m = turned_macro m
+
+-- the drawing as one of this version
+abbrev pub in_order_drawing : ℕ → Order → Drawing → Drawing
+in_order_drawing version o d = record d {
+  version = version;
+  macros = map (in_order_macro o) d.macros;
+  body = in_order_statements o d.body;
+}

@@ -3,7 +3,7 @@
 //! The layer above calls [`upgrade`]. `specs/Upgraded` says which text that gives: the canonical
 //! text of the drawing in version 2, the selects of its multiplexers in the order that version has.
 //! `specs/Upgrade` says what the text draws: the same flat circuit and the same cases, which
-//! `specs/SameCircuit` spells out.
+//! `specs/SameCircuit` spells out. [`copy_drawing`] gives a plain copy.
 #![tactic(auto)]
 
 mod copy;
@@ -11,4 +11,4 @@ mod tree;
 mod turned;
 mod upgraded;
 
-pub use upgraded::upgrade;
+pub use upgraded::{copy_drawing, upgrade};

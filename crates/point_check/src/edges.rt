@@ -73,7 +73,7 @@ fn window_fault<W: CyclicWave<Item = Value>>(
 }
 
 /// After how many slots, 1 to a period, the clock can first not stay at 1.
-fn first_low<W: CyclicWave<Item = Value>>(clock: &W, edge: u16) -> Option<u16>
+pub fn first_low<W: CyclicWave<Item = Value>>(clock: &W, edge: u16) -> Option<u16>
     requires { edge < length (W.cells clock.now) }
     ensures first { result ≡ low_after (length (W.cells clock.now))
         (read (W.cells clock.now)) edge }
@@ -89,7 +89,7 @@ fn first_low<W: CyclicWave<Item = Value>>(clock: &W, edge: u16) -> Option<u16>
 }
 
 /// After how many slots, 1 to `low`, the clock may last fall.
-fn last_fall<W: CyclicWave<Item = Value>>(clock: &W, edge: u16, low: u16) -> Option<u16>
+pub fn last_fall<W: CyclicWave<Item = Value>>(clock: &W, edge: u16, low: u16) -> Option<u16>
     requires edge { edge < length (W.cells clock.now) }
     requires low { low ≤ length (W.cells clock.now) }
     ensures last { result ≡ fall_before (read (W.cells clock.now)) edge low }

@@ -4,7 +4,8 @@
 //!
 //! The layer above calls [`check_points`] for the faults of all settled waves,
 //! [`check_points_again`] for those of further waves, where [`known_points`] were worked out once,
-//! and [`point_fault`] for what a checker finds with other limits. `specs/Faults` says which faults
+//! and [`point_fault`] for what a checker finds with other limits. [`first_low`] and [`last_fall`]
+//! tell how long a clock is high. `specs/Faults` says which faults
 //! come, in which order:
 //! `specs/Point` those of checkers, over the windows of `specs/Window`, `specs/Assertion` those of
 //! nets.
@@ -31,4 +32,5 @@ mod known;
 
 pub use check::{check_points, check_points_again};
 pub use checker::point_fault;
+pub use edges::{first_low, last_fall};
 pub use known::{PointFaults, known_points};

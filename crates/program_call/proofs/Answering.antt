@@ -83,12 +83,14 @@ module _ {Command Outcome : Type 0} (m : Meaning Command Outcome) (lawful : IsLa
       same short asks in
       absurd (omega (arith, within, long))
 
-  -- words and a text have one answer
+  -- all answers to words and a text count as one
   pub one_answer : (words : List (List ℕ)) (text : List ℕ) (o o' : Outcome)
       (bytes bytes' : List ℕ) → Answer m words text o bytes → Answer m words text o' bytes' →
-      (o ≡ o') × (bytes ≡ bytes')
+      m.AreOne o bytes o' bytes'
   one_answer words text _ _ _ _ (no_form i form) (no_form j form') =
-      let same : i ≡ j = cc (form, form') in (ap (λ (k : ℕ). m.ended (BadWords k)) same, refl)
+      let same : i ≡ j = cc (form, form') in
+      subst (λ (k : ℕ). m.AreOne (m.ended (BadWords i)) [] (m.ended (BadWords k)) []) same
+      (lawful.same (m.ended (BadWords i)) [])
   one_answer words text _ _ _ _ (no_form i form) (too_long c form' asks long') =
       absurd (no_command words i c form form')
   one_answer words text _ _ _ _ (no_form i form) (replied c o' bytes' form' short' r') =
@@ -96,7 +98,7 @@ module _ {Command Outcome : Type 0} (m : Meaning Command Outcome) (lawful : IsLa
   one_answer words text _ _ _ _ (too_long c form asks long) (no_form j form') =
       absurd (no_command words j c form' form)
   one_answer words text _ _ _ _ (too_long c form asks long) (too_long c' form' asks' long') =
-      (refl, refl)
+      lawful.same (m.ended TooLong) []
   one_answer words text _ _ _ _ (too_long c form asks long) (replied c' o' bytes' form' short' r') =
       absurd (within_or_past words text c c' form form' asks long short')
   one_answer words text _ _ _ _ (replied c o bytes form short r) (no_form j form') =

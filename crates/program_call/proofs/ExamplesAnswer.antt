@@ -16,12 +16,14 @@ form_of [] = Ok false
 form_of (word ∷ []) = Ok true
 form_of (word ∷ other ∷ words) = Err 1
 
-abbrev pub program : (Bool → List ℕ → Outcome → List ℕ → Type 0) → Meaning Bool Outcome
-program Replies = record {
+abbrev pub program : (Bool → List ℕ → Outcome → List ℕ → Type 0) →
+    (Outcome → List ℕ → Outcome → List ℕ → Type 0) → Meaning Bool Outcome
+program Replies AreOne = record {
   command_of = form_of;
   reads = λ command. command;
   most_bytes = λ command. 3;
   Replied = Replies;
+  AreOne = AreOne;
   ended = ended;
   end_of = end_of;
 }
@@ -31,10 +33,10 @@ Echoes true text o bytes = (o ≡ Done) × (bytes ≡ text)
 Echoes false text o bytes = (o ≡ Done) × (bytes ≡ [])
 
 abbrev pub echo : Meaning Bool Outcome
-echo = program Echoes
+echo = program Echoes (λ o bytes p others. (o ≡ p) × (bytes ≡ others))
 
 pub lawful : IsLawful echo
-lawful = record { ends = end_of_ended; replies = done; one = one; unread = unread }
+lawful = record { ends = end_of_ended; replies = done; one = one; same = λ o bytes. (refl, refl); unread = unread }
   where
     done : (command : Bool) (text : List ℕ) (o : Outcome) (bytes : List ℕ) →
         Echoes command text o bytes → end_of o ≡ None
@@ -53,6 +55,11 @@ lawful = record { ends = end_of_ended; replies = done; one = one; unread = unrea
 
 abbrev babble : Meaning Bool Outcome
 babble = program (λ command text o bytes. o ≡ Done)
+    (λ o bytes p others. (o ≡ p) × (bytes ≡ others))
+
+-- the same where replies of one outcome count as one
+abbrev talk : Meaning Bool Outcome
+talk = program (λ command text o bytes. o ≡ Done) (λ o bytes p others. o ≡ p)
 
 abbrev pub word : List (List ℕ)
 word = [] ∷ []
@@ -81,6 +88,20 @@ many_replies text taken taken' short answered =
     let other = answered.only Done (1 ∷ answered.bytes)
     (replied true Done (1 ∷ answered.bytes) refl (λ asks. short) refl) in
     absurd (omega (arith, ap length other.1))
+
+-- where replies of one outcome count as one, any bytes are the answer
+any_reply : (bytes : List ℕ) → IsAnswered talk word [] Done (Some []) (Some bytes)
+any_reply bytes = record {
+  bytes = bytes;
+  is = replied true Done bytes refl (λ asks. omega arith) refl;
+  only = only;
+  written = refl;
+}
+  where
+    only : (p : Outcome) (others : List ℕ) → Answer talk word [] p others → p ≡ Done
+    only _ _ (no_form i form) = absurd (cc)
+    only _ _ (too_long command form asks long) = absurd (omega (arith, long))
+    only _ _ (replied command o others form short r) = r
 
 -- ---- an answer that is cut short
 

@@ -10,3 +10,4 @@ pub mod Answering
 pub mod Calling
 pub mod ExamplesAnswer
 mod ExamplesCall
+mod ExamplesPromise

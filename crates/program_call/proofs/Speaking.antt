@@ -38,5 +38,6 @@ reporting_is_lawful name Reports spoken one = record {
       replied;
   one = λ request text o o' bytes bytes' replied replied'. one_evaluated Reports one None text o o'
       bytes bytes' replied replied';
+  same = λ o bytes. (refl, refl);
   unread = λ request text other o bytes none replied. absurd (cc);
 }

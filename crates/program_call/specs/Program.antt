@@ -7,24 +7,26 @@ use Rattle.scald_base.specs.declared.call_end.CallEnd.TheVariants.{BadWords, Too
 
 -- What the words of a program ask for, or the number of the first with which no form goes on;
 -- which commands read, and how many bytes at most; what is replied to a text, by outcome and
--- bytes; and which outcomes are of the ends of a call that say nothing of a text.
+-- bytes; which two replies count as one; and which outcomes are of the ends of a call that say
+-- nothing of a text.
 pub record Meaning (Command Outcome : Type 0) : Type 1 where
   pub command_of : List (List ℕ) → Result Command ℕ
   pub reads : Command → Bool
   pub most_bytes : Result Command ℕ → ℕ
   pub Replied : Command → List ℕ → Outcome → List ℕ → Type 0
+  pub AreOne : Outcome → List ℕ → Outcome → List ℕ → Type 0
   pub ended : CallEnd → Outcome
   pub end_of : Outcome → Option CallEnd
 
--- Each end has an outcome of its own, and no reply is such an outcome. A text has one reply,
--- which is the same to all texts where the source is not read.
+-- Each end has an outcome of its own, and no reply is such an outcome. All replies to a text count
+-- as one, which is the same to all texts where the source is not read.
 pub record IsLawful {Command Outcome : Type 0} (m : Meaning Command Outcome) : Type 0 where
   pub ends : (end : CallEnd) → m.end_of (m.ended end) ≡ Some end
   pub replies : (command : Command) (text : List ℕ) (o : Outcome) (bytes : List ℕ) →
       m.Replied command text o bytes → m.end_of o ≡ None
   pub one : (command : Command) (text : List ℕ) (o o' : Outcome) (bytes bytes' : List ℕ) →
-      m.Replied command text o bytes → m.Replied command text o' bytes' →
-      (o ≡ o') × (bytes ≡ bytes')
+      m.Replied command text o bytes → m.Replied command text o' bytes' → m.AreOne o bytes o' bytes'
+  pub same : (o : Outcome) (bytes : List ℕ) → m.AreOne o bytes o bytes
   pub unread : (command : Command) (text other : List ℕ) (o : Outcome) (bytes : List ℕ) →
       m.reads command ≡ false → m.Replied command text o bytes → m.Replied command other o bytes
 
@@ -108,14 +110,15 @@ pub data AreTold {Command Outcome : Type 0} (m : Meaning Command Outcome)
   by_source : left ≡ Some text → AreTold m words left text
   by_words : are_reading m.reads (m.command_of words) ≡ false → AreTold m words left text
 
--- The outcome is the one that the words and the text have, and the sink took exactly its bytes.
+-- The outcome and the bytes that the sink took are an answer that the words and the text have, and
+-- all others count as the same.
 pub record IsAnswered {Command Outcome : Type 0} (m : Meaning Command Outcome)
     (words : List (List ℕ)) (text : List ℕ) (o : Outcome)
     (taken taken' : Option (List ℕ)) : Type 0 where
   pub bytes : List ℕ
   pub is : Answer m words text o bytes
   pub only : (p : Outcome) (others : List ℕ) → Answer m words text p others →
-      (p ≡ o) × (others ≡ bytes)
+      m.AreOne p others o bytes
   pub written : Appends taken taken' bytes
 
 -- The sink took a front of the bytes of the answer that the words and the text have.

@@ -1,5 +1,5 @@
 -- A program that is asked for by its name alone, and replies to the text that it reads.
-use Rattle.std.specs.Prelude.{ℕ, true, List, [], ◌∷◌, None, Result, Ok, Err, if◌then◌else◌}
+use Rattle.std.specs.Prelude.{◌≡◌, ℕ, true, List, [], ◌∷◌, None, Result, Ok, Err, if◌then◌else◌}
 use Rattle.std.specs.Str.{bytes_eq}
 use Rattle.scald_base.specs.declared.outcome.Outcome.{Outcome}
 use Rattle.scald_base.specs.Outcome.{ended, end_of}
@@ -27,13 +27,14 @@ most_bytes = 4194304
 abbrev pub Replying : Type 1
 Replying = List ℕ → Outcome → List ℕ → Type 0
 
--- It reads a text and has this reply to it.
+-- It reads a text and has this reply to it, byte by byte.
 abbrev pub wordless : List ℕ → Replying → Meaning Request Outcome
 wordless name Replied = record {
   command_of = by_name name;
   reads = λ request. true;
   most_bytes = λ read. most_bytes;
   Replied = λ request. Replied;
+  AreOne = λ o bytes p others. (o ≡ p) × (bytes ≡ others);
   ended = ended;
   end_of = end_of;
 }

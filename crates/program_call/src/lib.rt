@@ -23,12 +23,14 @@ mod reporter;
 mod text_reply;
 mod undriven;
 
-// a program without words
+// words
+mod numbers;
 mod wordless;
 mod words;
 
 pub use call::main_call;
 pub use ends::{ended, refused};
+pub use numbers::{number_in, rounds_of};
 pub use outcome::verdict;
 pub use program::Program;
 pub use reply::Reply;

@@ -11,7 +11,8 @@ use Rattle.listing.specs.declared.case.Mode.{Mode}
 use Rattle.listing.specs.declared.case.Mode.TheVariants.{Full, Waves, Faults}
 use Rattle.scald_tool.specs.declared.words.Command.{Command}
 use Rattle.scald_tool.specs.declared.words.Command.TheVariants.{Verify, Format, Upgrade, Bench}
-use Rattle.scald_tool.specs.Words.{alone, behind_mode, behind_verify, behind_bench, from_mode, limit_behind, limit_of, most_rounds, most_sections, number_in, with_limit, with_sections}
+use Rattle.program_call.specs.Numbers.{most_rounds, number_after, number_in, rounds_of}
+use Rattle.scald_tool.specs.Words.{alone, behind_mode, behind_verify, behind_bench, from_mode, most_sections, with_limit, with_sections}
 use Rattle.scald_tool.specs.Forms.{mode_words, words_for, MayBeAsked, GoesOn, GoesWrong, AreReadAs, WordsAreRead, WordsAreKnown}
 
 -- ---- tests of bytes
@@ -71,7 +72,7 @@ abbrev IsLimit : List ℕ → Option ℕ → Type 0
 IsLimit word (Some n) = (word ≡ codes "rounds=" ++ decimal n) × IsFrom most_rounds n
 IsLimit word None = (n : ℕ) → IsFrom most_rounds n → word ≢ codes "rounds=" ++ decimal n
 
-limit_front : (word : List ℕ) (t : Bool) → bytes_eq (take 7 word) (codes "rounds=") ≡ t → IsLimit word (limit_behind (cond t (Some (drop 7 word)) None))
+limit_front : (word : List ℕ) (t : Bool) → bytes_eq (take 7 word) (codes "rounds=") ≡ t → IsLimit word (number_after most_rounds (cond t (Some (drop 7 word)) None))
 limit_front word true e = by_number (number_in most_rounds (drop 7 word)) (number_is most_rounds (drop 7 word) (omega arith))
   where
     whole : codes "rounds=" ++ drop 7 word ≡ word
@@ -82,7 +83,7 @@ limit_front word true e = by_number (number_in most_rounds (drop 7 word)) (numbe
     by_number None is = λ n from same. is n from (ap (drop 7) same)
 limit_front word false e = λ n from same. other_bytes (take 7 word) (codes "rounds=") e (ap (take 7) same)
 
-limit_is : (word : List ℕ) → IsLimit word (limit_of word)
+limit_is : (word : List ℕ) → IsLimit word (rounds_of word)
 limit_is word = limit_front word (bytes_eq (take 7 word) (codes "rounds=")) refl
 
 -- ---- where words go wrong
@@ -213,7 +214,7 @@ IsHead mode (w ∷ ws) = IsNoMode mode w
 
 mode_read : (mode : Mode) (ws : List (List ℕ)) → IsHead mode ws → AreReadAs (codes "verify" ∷ (mode_words mode ++ ws)) (behind_mode mode (up_to_mode mode) ws)
 mode_read mode [] head = (tt, refl)
-mode_read mode (w ∷ ws) head = limit_read (limit_of w) ws (limit_is w)
+mode_read mode (w ∷ ws) head = limit_read (rounds_of w) ws (limit_is w)
   where
     last_read : (n : ℕ) (xs : List (List ℕ)) → w ≡ codes "rounds=" ++ decimal n → IsFrom most_rounds n →
         AreReadAs (codes "verify" ∷ (mode_words mode ++ w ∷ xs)) (alone (Verify mode (Some n)) (up_to_mode mode + 1) xs)
@@ -362,7 +363,7 @@ words_are_read (w ∷ ws) = by_verify (bytes_eq w (codes "verify")) refl
 
 -- ---- the words of what may be asked for
 
-limit_is_number : (n : ℕ) → IsFrom most_rounds n → limit_of (codes "rounds=" ++ decimal n) ≡ Some n
+limit_is_number : (n : ℕ) → IsFrom most_rounds n → rounds_of (codes "rounds=" ++ decimal n) ≡ Some n
 limit_is_number n from = number_of most_rounds n (omega arith) from
 
 pub words_are_known : WordsAreKnown

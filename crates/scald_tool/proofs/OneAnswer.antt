@@ -37,7 +37,7 @@ unread Upgrade text other o bytes none r = absurd (cc)
 unread (Bench sections) text other o bytes none r = r
 
 pub verifier_lawful : IsLawful verifier
-verifier_lawful = record { ends = end_of_ended; replies = reply_speaks; one = one_reply; unread = unread }
+verifier_lawful = record { ends = end_of_ended; replies = reply_speaks; one = one_reply; same = λ o bytes. (refl, refl); unread = unread }
 
 pub words_have_one_answer : OneAnswer
 words_have_one_answer = one_answer verifier verifier_lawful

@@ -77,6 +77,7 @@ verifier = record {
   reads = reads;
   most_bytes = λ read. most_bytes;
   Replied = Replied;
+  AreOne = λ o bytes p others. (o ≡ p) × (bytes ≡ others);
   ended = ended;
   end_of = end_of;
 }

@@ -4,7 +4,8 @@ use Rattle.listing.specs.declared.case.Mode.{Mode}
 use Rattle.listing.specs.declared.case.Mode.TheVariants.{Full, Waves, Faults}
 use Rattle.scald_tool.specs.declared.words.Command.{Command}
 use Rattle.scald_tool.specs.declared.words.Command.TheVariants.{Verify, Format, Upgrade, Bench}
-use Rattle.scald_tool.specs.Words.{command_of, most_rounds, most_sections}
+use Rattle.program_call.specs.Numbers.{most_rounds}
+use Rattle.scald_tool.specs.Words.{command_of, most_sections}
 
 abbrev pub mode_words : Mode → List (List ℕ)
 mode_words Full = []

@@ -1,42 +1,18 @@
 -- The forms of words that the program has: `verify`, then `waves` or `faults` where one is asked
 -- for alone, then `rounds=N` where the rounds are to be so many at most; `format`; `upgrade`; and
 -- `bench N`.
-use Rattle.std.specs.Prelude.{ℕ, ◌+◌, ◌≤◌, ◌&&◌, nat_le, Bool, true, false, List, [], ◌∷◌, length, take, drop, codes, decimal, Option, Some, None, IfSome, Result, Ok, Err, if◌then◌else◌, ⊤}
+use Rattle.std.specs.Prelude.{ℕ, ◌+◌, ◌≤◌, Bool, true, false, List, [], ◌∷◌, codes, Option, Some, None, IfSome, Result, Ok, Err, if◌then◌else◌, ⊤}
 use Rattle.std.specs.Str.{bytes_eq}
 use Rattle.program_call.specs.Program as program
-use Rattle.scald_lex.specs.Bytes.{value_of}
+use Rattle.program_call.specs.Numbers.{most_rounds, number_in, rounds_of}
 use Rattle.listing.specs.declared.case.Mode.{Mode}
 use Rattle.listing.specs.declared.case.Mode.TheVariants.{Full, Waves, Faults}
 use Rattle.scald_tool.specs.declared.words.Command.{Command}
 use Rattle.scald_tool.specs.declared.words.Command.TheVariants.{Verify, Format, Upgrade, Bench}
 
--- the most rounds that may be asked for
-abbrev pub most_rounds : ℕ
-most_rounds = 10000000
-
 -- the most sections that a generated drawing may have
 abbrev pub most_sections : ℕ
 most_sections = 200
-
--- what follows a front
-abbrev pub behind : List ℕ → List ℕ → Option (List ℕ)
-behind front word =
-    if bytes_eq (take (length front) word) front then Some (drop (length front) word) else None
-
--- the number of 1 to the most whose decimal text this is
-unfoldable pub number_in : ℕ → List ℕ → Option ℕ
-number_in most digits =
-    if bytes_eq digits (decimal (value_of digits))
-    && (nat_le 1 (value_of digits) && nat_le (value_of digits) most)
-    then Some (value_of digits) else None
-
-abbrev pub limit_behind : Option (List ℕ) → Option ℕ
-limit_behind None = None
-limit_behind (Some digits) = number_in most_rounds digits
-
--- the N of `rounds=N`
-abbrev pub limit_of : List ℕ → Option ℕ
-limit_of word = limit_behind (behind (codes "rounds=") word)
 
 abbrev pub mode_of : List ℕ → Option Mode
 mode_of word =
@@ -55,7 +31,7 @@ with_limit mode place (Some n) others = alone (Verify mode (Some n)) (place + 1)
 -- the words from this number on, where a mode is known
 abbrev pub behind_mode : Mode → ℕ → List (List ℕ) → Result Command ℕ
 behind_mode mode place [] = Ok (Verify mode None)
-behind_mode mode place (w ∷ ws) = with_limit mode place (limit_of w) ws
+behind_mode mode place (w ∷ ws) = with_limit mode place (rounds_of w) ws
 
 abbrev pub from_mode : Option Mode → List ℕ → List (List ℕ) → Result Command ℕ
 from_mode (Some mode) w ws = behind_mode mode 2 ws

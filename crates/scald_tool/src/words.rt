@@ -1,15 +1,11 @@
 //! The words that the program is called with.
 
-ghost use Rattle.std.specs.Prelude.{◌≡◌, ◌<◌, ◌≤◌, ◌^◌, ◌-◌, IfOk, IfSome, min};
-ghost use Rattle.scald_lex.specs.Bytes.{value_of};
-ghost use Rattle.scald_tool.specs.Words.{IsWithin, alone, behind_bench, behind_mode, behind_verify, command_of, limit_of, mode_of, number_in, reads};
+ghost use Rattle.std.specs.Prelude.{◌≡◌, ◌<◌, IfOk};
+ghost use Rattle.scald_tool.specs.Words.{IsWithin, alone, behind_bench, behind_mode, behind_verify, command_of, mode_of, reads};
 
-use itoa::Buffer;
 use listing::Mode;
+use program_call::{number_in, rounds_of};
 use scald_base::{Bytes, Words};
-
-/// The most rounds that may be asked for.
-const MOST_ROUNDS: u32 = 10_000_000;
 
 /// The most sections that a generated drawing may have.
 const MOST_SECTIONS: u32 = 200;
@@ -96,7 +92,7 @@ fn behind_mode(mode: Mode, place: u32, words: &[Bytes]) -> Result<Command, u32>
     let [first, others @ ..] = words else {
         return Ok(Command::Verify { mode, rounds: None });
     };
-    match limit_of(first.as_slice()) {
+    match rounds_of(first.as_slice()) {
         Some(limit) => {
             let rounds = Some(limit);
             alone(Command::Verify { mode, rounds }, place + 1, others)
@@ -130,44 +126,4 @@ fn mode_of(word: &[u8]) -> Option<Mode>
     } else {
         None
     }
-}
-
-/// How many rounds a word allows.
-fn limit_of(word: &[u8]) -> Option<u32>
-    ensures is { result ≡ limit_of word.now }
-    ensures within { IfSome result (λ limit. limit ≤ 10000000) }
-{
-    match word.strip_prefix(b"rounds=") {
-        Some(digits) => number_in(MOST_ROUNDS, digits),
-        None => None,
-    }
-}
-
-/// The number of 1 to the most whose decimal text this is.
-#[tactic(auto, unfolding(crate::specs::Words::number_in))]
-fn number_in(most: u32, digits: &[u8]) -> Option<u32>
-    requires { most < 2 ^ 32 - 1 }
-    ensures is { result ≡ number_in most digits.now }
-    ensures within { IfSome result (λ number. (1 ≤ number) × (number ≤ most)) }
-{
-    let number = value(digits);
-    let is_within = 1 <= number && number <= most;
-    if is_within && Buffer::new().format(number).as_bytes() == digits {
-        Some(number)
-    } else {
-        None
-    }
-}
-
-/// The value of digits, or the greatest number of 32 bits where it is greater.
-fn value(digits: &[u8]) -> u32
-    ensures { result ≡ min (value_of digits.now) (2 ^ 32 - 1) }
-{
-    let mut value: u32 = 0;
-    for digit in digits {
-        value = value
-            .saturating_mul(10)
-            .saturating_add(u32::from(digit.saturating_sub(b'0')));
-    }
-    value
 }

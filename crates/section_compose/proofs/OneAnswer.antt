@@ -233,5 +233,6 @@ composer_lawful = record {
   ends = ends_apart;
   replies = λ request. joined_speaks;
   one = λ request. one_joined;
+  same = λ o bytes. (refl, refl);
   unread = λ request text other o bytes none replied. absurd (cc);
 }

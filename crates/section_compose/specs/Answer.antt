@@ -79,6 +79,7 @@ composer = record {
   reads = λ request. true;
   most_bytes = λ read. most_bytes;
   Replied = λ request. Joined;
+  AreOne = λ o bytes p others. (o ≡ p) × (bytes ≡ others);
   ended = ended;
   end_of = end_of;
 }

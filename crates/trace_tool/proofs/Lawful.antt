@@ -76,5 +76,6 @@ simulator_is_lawful = record {
   ends = end_of_ended;
   replies = speaks;
   one = one_reply;
+  same = λ o bytes. (refl, refl);
   unread = λ command text other o bytes none r. absurd (cc);
 }

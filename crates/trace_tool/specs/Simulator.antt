@@ -1,5 +1,5 @@
 -- What the simulator answers to its words and to the bytes that it is given.
-use Rattle.std.specs.Prelude.{ℕ, true, List, Result, Ok, Err}
+use Rattle.std.specs.Prelude.{◌≡◌, ℕ, true, List, Result, Ok, Err}
 use Rattle.program_call.specs.Program.{Meaning}
 use Rattle.trace_tool.specs.declared.words.Command.{Command}
 use Rattle.trace_tool.specs.declared.words.Command.TheVariants.{Run, Judge}
@@ -29,6 +29,7 @@ simulator = record {
   reads = λ command. true;
   most_bytes = most_bytes;
   Replied = Replied;
+  AreOne = λ o bytes p others. (o ≡ p) × (bytes ≡ others);
   ended = ended;
   end_of = end_of;
 }

@@ -1,7 +1,10 @@
-use Rattle.std.proofs.Common.{◌≡◌, ◌∙◌, map, refl, ap, sym, eq-eqb, ne_eqb}
-use Rattle.drawing_tree.specs.Tree.{assignment_of, macro_of, statements_of, drawing_of}
-use Rattle.format_upgrade.specs.Order.{in_order_macro, in_order_statements}
-use Rattle.format_upgrade.proofs.Ordered.{in_order_drawing, upgraded_first, upgraded_second}
+use Rattle.std.proofs.Common.{◌≡◌, ◌∙◌, eq-eqb, ne_eqb}
+use Rattle.std.proofs.lemmas.Result.{IfOk-weaker}
+use Rattle.drawing_tree.specs.declared.drawing.Drawing.{Drawing}
+use Rattle.drawing_tree.specs.Tree.{drawing_of}
+use Rattle.format_upgrade.specs.Order.{in_order_drawing}
+use Rattle.format_upgrade.specs.Upgraded.{upgraded}
+use Rattle.format_upgrade.proofs.Ordered.{upgraded_first, upgraded_second}
 use Rattle.format_upgrade.proofs.upgraded.in_last_version.Goals.{then-drawing-eq1, else-drawing-eq1}
 use Rattle.format_upgrade.proofs.upgraded.in_last_version.Goals as goal
 
@@ -9,24 +12,9 @@ pub returns : goal.returns
 returns c =
     let d = drawing_of c.args.drawing.now in
     let order = c.if-drawing-eq1.order in
-    let consts : map assignment_of c.in_ok-trees.field-0 ≡ d.consts = c.in_ok-trees.ensures ∙ ap (map assignment_of) c.as_slice.ensures in
-    let places = c.in_ok-copies.ensures ∙ c.as_slice-2.ensures in
-    let macros : map macro_of c.in_ok-macros.field-0 ≡ map (in_order_macro order) d.macros =
-    c.in_ok-macros.ensures ∙ ap (λ ms. map (in_order_macro order) (map macro_of ms)) c.as_slice-3.ensures in
-    let body : statements_of c.in_ok-statements.field-0.items ≡ in_order_statements order d.body =
-    c.in_ok-statements.ensures ∙ ap (λ ss. in_order_statements order (statements_of ss)) c.as_slice-4.ensures.value in
-    let cases = c.in_ok-copies-2.ensures ∙ c.as_slice-5.ensures in
-    let same : in_order_drawing order d ≡ drawing_of (record {
-      version = 2;
-      header = c.args.drawing.now.header;
-      consts = c.in_ok-trees.field-0;
-      const_places = c.in_ok-copies.field-0;
-      macros = c.in_ok-macros.field-0;
-      name = c.in_ok-bytes.field-0;
-      body = c.in_ok-statements.field-0;
-      cases = c.in_ok-copies-2.field-0;
-    }) = rw (consts, places, macros, c.in_ok-bytes.ensures, body, cases) refl in
-    sym same ∙ elim c.if-drawing-eq1.branch [
+    let same : in_order_drawing 2 order d ≡ upgraded d = elim c.if-drawing-eq1.branch [
       | then-drawing-eq1 w ↦ upgraded_first order d w.order-is (eq-eqb d.version 1 w.if-drawing-eq1.true)
       | else-drawing-eq1 w ↦ upgraded_second order d w.order-is (ne_eqb d.version 1 w.if-drawing-eq1.false)
-    ]
+    ] in
+    IfOk-weaker c.copied.result (λ (copy : Drawing). drawing_of copy ≡ in_order_drawing 2 order d)
+    (λ (copy : Drawing). drawing_of copy ≡ upgraded d) (λ copy is. is ∙ same) c.copied.ensures

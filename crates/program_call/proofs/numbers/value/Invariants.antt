@@ -1,6 +1,6 @@
 use Rattle.std.proofs.Common.{◌≡◌, ◌-◌, ◌^◌, min, take}
 use Rattle.scald_lex.specs.Bytes.{value_of}
-use Rattle.scald_tool.proofs.words.value.Given as goal
+use Rattle.program_call.proofs.numbers.value.Given as goal
 
 abbrev pub invariant-loop-digit : goal.invariant-loop-digit
 invariant-loop-digit l = l.value ≡ min (value_of (take l.digit-index l.digits)) (2 ^ 32 - 1)

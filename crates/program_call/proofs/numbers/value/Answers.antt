@@ -1,7 +1,7 @@
 use Rattle.std.proofs.Common.{◌≡◌, ◌+◌, min, take, arith}
 use Rattle.scald_lex.specs.Bytes.{value_of}
 use Rattle.scald_lex.proofs.Values.{value_of_next}
-use Rattle.scald_tool.proofs.words.value.Goals as goal
+use Rattle.program_call.proofs.numbers.value.Goals as goal
 
 pub loop-digit-preserved : goal.loop-digit-preserved
 loop-digit-preserved c =
