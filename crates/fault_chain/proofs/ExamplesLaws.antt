@@ -1,5 +1,6 @@
 -- Chains that are whole, and others that are not.
-use Rattle.std.proofs.Common.{◌≡◌, ◌≤◌, ◌==◌, inl, inr, All, true, false, true≢false, List, [], ◌∷◌, ◌++◌, refl, sym, ap, subst, ◌∙◌, arith, codes, Some, None}
+use Rattle.std.proofs.Common.{◌≡◌, ◌≤◌, ◌==◌, inl, inr, All, true, false, true≢false, List, [], ◌∷◌, ◌++◌, map, refl, sym, ap, subst, ◌∙◌, arith, codes, Some, None}
+use Rattle.std.specs.Prelude.{◌≢◌}
 use Rattle.std.proofs.lemmas.Bool.{false≢true}
 use Rattle.std.specs.List.{list_any}
 use Rattle.std.proofs.lemmas.Option.{same_Some}
@@ -12,14 +13,15 @@ use Rattle.element_kinds.specs.declared.kind.Kind.{Kind}
 use Rattle.element_kinds.specs.declared.kind.Kind.TheVariants.{LatchRs, Reg, RegRs}
 use Rattle.flat_circuit.specs.declared.instance.Instance.{Instance}
 use Rattle.flat_circuit.specs.declared.net.Net.{Net}
-use Rattle.flat_circuit.specs.declared.fault.Fault.TheVariants.{Width, Assertion}
+use Rattle.flat_circuit.specs.declared.fault.PointKind.TheVariants.{Setup}
+use Rattle.flat_circuit.specs.declared.fault.Fault.TheVariants.{Point, Width, Hazard, Assertion}
 use Rattle.flat_circuit.specs.Circuit.{Circuit, driver}
 use Rattle.flat_circuit.proofs.RunTables.{element}
 use Rattle.fault_chain.specs.declared.chain.Link.{Link}
 use Rattle.fault_chain.specs.declared.chain.Chain.{Chain}
 use Rattle.fault_chain.specs.declared.chain.End.{End}
 use Rattle.fault_chain.specs.declared.chain.End.TheVariants.{Both, Level, Repeat, Undriven}
-use Rattle.fault_chain.specs.Laws.{HasSetAndReset, IsForced, IsWhole, MayChange}
+use Rattle.fault_chain.specs.Laws.{HasSetAndReset, IsForced, IsWhole, MayChange, is_of_assertion}
 
 abbrev nobounds : Bounds
 nobounds = record { min = 0; max = 0 }
@@ -129,6 +131,13 @@ no_repeat whole =
     are.1 whole.ends.1) in
     false≢true met
 
+-- and may change once more
+no_steady_repeat : ¬ IsWhole circuit (Width 0 true 4 2)
+    (record { links = falling ∷ steady ∷ []; end = Repeat })
+no_steady_repeat whole =
+    let are = links_are falling steady whole.before whole.last whole.links in
+    true≢false (subst (λ (link : Link). MayChange link) are.1 whole.ends.0)
+
 -- links before the last one may change
 no_rest : ¬ IsWhole circuit (Width 0 true 4 2)
     (record { links = steady ∷ falling ∷ []; end = Undriven })
@@ -151,6 +160,11 @@ no_moving_level : ¬ IsWhole circuit (Assertion 0 4 70)
 no_moving_level whole =
     let same : falling ≡ whole.last = last_is falling whole.before whole.last whole.links in
     false≢true (ap (λ (link : Link). is_quiet link.value) same ∙ whole.ends.1)
+
+of_assertions_alone : map is_of_assertion
+    (Point Setup 3 0 1 67 ∷ Width 3 true 0 1 ∷ Hazard 3 0 1 ∷ Assertion 3 0 67 ∷ [])
+    ≡ false ∷ false ∷ false ∷ true ∷ []
+of_assertions_alone = refl
 
 -- ---- where A is driven
 
@@ -186,6 +200,18 @@ by_register = forced RegRs (inl refl)
 
 by_latch : IsWhole (driven LatchRs) (Width 0 true 4 2) (one_link Both)
 by_latch = forced LatchRs (inr refl)
+
+-- its output may change
+no_steady_both : ¬ IsWhole (driven RegRs) (Width 0 true 3 2)
+    (record { links = steady ∷ []; end = Both })
+no_steady_both whole =
+    let same : steady ≡ whole.last = last_is steady whole.before whole.last whole.links in
+    true≢false (subst (λ (link : Link). MayChange link) (sym same) whole.ends.0)
+
+-- no other element has set and reset
+two_kinds_alone : (kind : Kind) → kind ≢ RegRs → kind ≢ LatchRs → ¬ HasSetAndReset kind
+two_kinds_alone kind register latch (inl is) = register is
+two_kinds_alone kind register latch (inr is) = latch is
 
 -- without set and reset some pin changes
 no_register : ¬ IsWhole (driven Reg) (Width 0 true 4 2) (one_link Both)

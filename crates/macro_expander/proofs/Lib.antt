@@ -1,5 +1,6 @@
 mod Examples
 mod ExamplesDelays
+mod ExamplesLimits
 mod ExamplesTurns
 pub mod Lists
 pub mod Alike

@@ -29,10 +29,10 @@ use Rattle.listing.specs.Fault.{fault_place}
 use Rattle.timing_analysis.specs.Case.{Case}
 use Rattle.margin_report.specs.declared.margin.Parameter.TheVariants.{Setup, Hold, High, Low}
 use Rattle.margin_report.specs.declared.margin.Margin.TheVariants.{Fault as Faulty, Limit, Next}
-use Rattle.margin_report.specs.Margin.{margin}
+use Rattle.margin_report.specs.Margin.{margin, written, spare}
 use Rattle.margin_report.specs.Promise.{may_answer}
 use Rattle.margin_report.specs.Report.{count_line, margin_line}
-use Rattle.margin_report.specs.Tried.{own_faults, with_value}
+use Rattle.margin_report.specs.Tried.{own_faults, with_limit, with_value}
 
 abbrev header : Header
 header = record { units = 8; ticks = 1; wire = record { min = 0; max = 0 }; pskew = (0, 0); cskew = (0, 0) }
@@ -149,6 +149,29 @@ no_hold = refl
 one_limit_more : map (λ parameter. (with_value edge parameter 5).limits) (Setup ∷ Hold ∷ High ∷ Low ∷ [])
     ≡ Edges 5 1 ∷ Edges 1 5 ∷ Pulses 5 0 ∷ Pulses 0 5 ∷ []
 one_limit_more = refl
+
+-- the other limit stays as it is written
+other_edge : map (λ parameter. with_limit (Edges 2 3) parameter 5) (Setup ∷ Hold ∷ [])
+    ≡ Edges 5 3 ∷ Edges 2 5 ∷ []
+other_edge = refl
+
+other_width : map (λ parameter. with_limit (Pulses 2 3) parameter 5) (High ∷ Low ∷ [])
+    ≡ Pulses 5 3 ∷ Pulses 2 5 ∷ []
+other_width = refl
+
+-- ---- what is written, and how much more may be in a period of eight ticks
+
+edges_written : map (written (Edges 2 3)) (Setup ∷ Hold ∷ High ∷ Low ∷ []) ≡ 2 ∷ 3 ∷ 0 ∷ 0 ∷ []
+edges_written = refl
+
+widths_written : map (written (Pulses 2 3)) (Setup ∷ Hold ∷ High ∷ Low ∷ []) ≡ 0 ∷ 0 ∷ 2 ∷ 3 ∷ []
+widths_written = refl
+
+more_of_edges : map (spare 8 (Edges 2 3)) (Setup ∷ Hold ∷ []) ≡ 3 ∷ 3 ∷ []
+more_of_edges = refl
+
+more_of_widths : map (spare 8 (Pulses 2 3)) (High ∷ Low ∷ []) ≡ 6 ∷ 5 ∷ []
+more_of_widths = refl
 
 -- ---- outcomes
 

@@ -24,7 +24,8 @@ abbrev pub rows_in : Circuit → List Case → ℕ → Option Instance → List 
 rows_in c cases k None = []
 rows_in c cases k (Some j) =
     map
-    (λ parameter. record { instance = k; parameter = parameter; margin = margin c cases k j parameter })
+    (λ parameter.
+    record { instance = k; parameter = parameter; margin = margin c cases k j parameter })
     (parameters_in (check_of j.kind))
 
 abbrev pub rows_at : Circuit → List Case → ℕ → List Row
