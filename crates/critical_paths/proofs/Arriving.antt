@@ -1,0 +1,38 @@
+-- What arrivals leave as it was.
+use Rattle.std.proofs.Common.{◌≡◌, ℕ, ◌<◌, ◌≤◌, List, [], ◌∷◌, ◌++◌, length, slice_get, refl, sym, subst, arith, append-nil, Option, Some, None, ℤ, pos, negsuc}
+use Rattle.std.specs.Prelude.{unsigned_abs}
+use Rattle.std.proofs.lemmas.Int.{ints}
+use Rattle.std.proofs.lemmas.Option.{slice_get_within}
+use Rattle.flat_circuit.specs.declared.net.Net.{Net}
+use Rattle.flat_circuit.specs.Circuit.{Circuit, driver_at, driver_in}
+use Rattle.fixpoint_engine.specs.Waves.{Waves}
+use Rattle.critical_paths.specs.declared.event.Stop.{Stop}
+use Rattle.critical_paths.specs.declared.path.Node.{Node}
+use Rattle.critical_paths.specs.Told.{Grows, IsNear, Knows}
+use Rattle.critical_paths.proofs.Memo.{knows_more}
+
+-- no node more, and one
+pub grows_none : (nodes : List Node) → Grows nodes nodes
+grows_none nodes = record { more = []; is = sym (append-nil nodes) }
+
+pub grows_one : (old new : List Node) (n : Node) → new ≡ old ++ n ∷ [] → Grows old new
+grows_one old new n is = record { more = n ∷ []; is = is }
+
+-- what was known stays so
+pub knows_grown : (c : Circuit) (ws : Waves) (old new : List Node) (met after : List (Stop × ℕ)) → Grows old new → after ≡ met →
+    Knows c ws old met → Knows c ws new after
+knows_grown c ws old new met after grows same knows =
+    subst (λ (es : List (Stop × ℕ)). Knows c ws new es) (sym same)
+    (subst (λ (nodes : List Node). Knows c ws nodes met) (sym grows.is) (knows_more c ws old grows.more met knows))
+
+pub near_by : (most : ℕ) (z : ℤ) → unsigned_abs z ≤ most → IsNear most z
+near_by most (pos n) less = record { low = omega (arith, ints, less); high = omega (arith, ints, less) }
+near_by most (negsuc n) less = record { low = omega (arith, ints, less); high = omega (arith, ints, less) }
+
+-- what is driven is a net
+pub driven_within : (nets : List Net) (i k : ℕ) → driver_at nets i ≡ Some k → i < length nets
+driven_within nets i k driven = by (slice_get nets i) refl driven
+  where
+    by : (o : Option Net) → slice_get nets i ≡ o → driver_in o ≡ Some k → i < length nets
+    by None at driven = absurd (cc)
+    by (Some n) at driven = slice_get_within nets i n at

@@ -1,0 +1,10 @@
+use Rattle.std.proofs.Common.{◌≡◌, length}
+use Rattle.critical_paths.specs.Told.{IsRound}
+use Rattle.critical_paths.proofs.path.Paths.push_round.Given as goal
+
+abbrev pub invariant-loop-place : goal.invariant-loop-place
+invariant-loop-place l =
+    record {
+      nodes : IsRound l.fn.self.nodes l.chain.entries l.first l.place l.ticks l.self.nodes;
+      met : l.self.met ≡ l.fn.self.met;
+    }

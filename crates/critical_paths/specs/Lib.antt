@@ -1,0 +1,14 @@
+pub mod Event
+pub mod Tick
+pub mod Region
+pub mod Cause
+pub mod Image
+pub mod Path
+pub mod Unfolded
+pub mod Walk
+pub mod Told
+pub mod Launch
+pub mod Arrival
+pub mod Common
+pub mod Views
+pub mod Laws

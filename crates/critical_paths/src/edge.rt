@@ -1,0 +1,76 @@
+//! The ideal edges that changes of clocks come from.
+
+ghost use Rattle.std.specs.Prelude.{◌≡◌, ◌<◌, IfSome};
+ghost use Rattle.scald_base.specs.Time.{period as period_of};
+ghost use Rattle.critical_paths.specs.Launch.{is_edge, offset_at, offset_if_edge};
+ghost use Rattle.critical_paths.specs.Tick.{IsWithin, most_tick, slot_of};
+ghost use Rattle.critical_paths.specs.Told.{IsNear};
+
+use crate::direction::{Corner, Direction};
+use crate::event::{Reading, Stop};
+use crate::view::View;
+use assertion_syntax::ideal;
+use scald_base::{AssertSpec, ClockSpec};
+use step_values::{StepSet, Value};
+use wave_core::CyclicWave;
+
+impl<'a, W: CyclicWave<Item = Value>> View<'a, W> {
+    /// Whether an ideal clock makes a step in the slot of a tick.
+    fn is_edge(&self, clock: &ClockSpec, direction: Direction, tick: i64) -> bool
+        requires { IsWithin most_tick tick }
+        ensures { let h = self.now.circuit.now.header in
+            result ≡ is_edge h clock.now direction (slot_of (period_of h) tick) }
+    {
+        let h = self.circuit.header();
+        let before = ideal(clock, h, self.slot(tick - 1));
+        let after = ideal(clock, h, self.slot(tick));
+        direction.is_among(StepSet::one_if(true, before, after))
+    }
+
+    /// How long after its ideal edge a step of a clock comes, where there is such an edge.
+    fn offset_if_edge(
+        &self,
+        clock: &ClockSpec,
+        skew: (u16, u16),
+        corner: Corner,
+        stop: Stop,
+    ) -> Option<i64>
+        requires { stop.slot < period_of self.now.circuit.now.header }
+        ensures is { result ≡ offset_if_edge self.now.circuit.now.header corner stop.direction stop.slot clock.now skew }
+        ensures near { IfSome result (IsNear 65535) }
+    {
+        // no slot is far from the first, since no period is long
+        let _period = self.period();
+        let (early, late) = clock.skew.unwrap_or(skew);
+        let after = match corner {
+            Corner::Late => i64::from(late),
+            Corner::Early => 0 - i64::from(early),
+        };
+        if self.is_edge(clock, stop.direction, i64::from(stop.slot) - after) {
+            Some(after)
+        } else {
+            None
+        }
+    }
+
+    /// How long after its ideal edge an event of an undriven net comes, in ticks, where there is
+    /// one. A clock that moves as a whole is as early as it may be at both ends of a pulse.
+    pub fn offset(&self, stop: Stop) -> Option<i64>
+        requires { stop.slot < period_of self.now.circuit.now.header }
+        ensures is { result ≡ offset_at self.now.circuit.now stop }
+        ensures near { IfSome result (IsNear 65535) }
+    {
+        let h = self.circuit.header();
+        match self.circuit.net(stop.net)?.spec.or(&AssertSpec::None) {
+            AssertSpec::Precision(clock) => {
+                let corner = match stop.reading {
+                    Reading::Unfolded => Corner::Early,
+                    Reading::Folded => stop.corner,
+                };
+                self.offset_if_edge(clock, h.pskew, corner, stop)
+            }
+            AssertSpec::Clock(clock) => self.offset_if_edge(clock, h.cskew, stop.corner, stop),
+            AssertSpec::None | AssertSpec::Stable(_) => None,
+        }
+    }
+}

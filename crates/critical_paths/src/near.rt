@@ -1,0 +1,62 @@
+//! Arrivals near the first period.
+
+ghost use Rattle.std.specs.Prelude.{◌≡◌, ◌^◌, IfSome};
+ghost use Rattle.critical_paths.specs.Tick.{IsWithin};
+ghost use Rattle.critical_paths.specs.Told.{IsNear};
+
+use crate::arrival::Arrival;
+
+/// More ticks than any way takes on which no net comes twice: there are at most 65,536 nets, and
+/// none of them is more than 8,190 ticks behind the one before.
+const FAR: u64 = 0x4000_0000_0000;
+
+/// When an edge comes to a net, if by a way that is not too long: the tick of the ideal edge, that
+/// at the net, and the number of its event.
+#[derive(Clone, Copy)]
+pub(crate) struct Near {
+    pub(crate) ideal: i64,
+    pub(crate) tick: i64,
+    pub(crate) node: usize,
+    ghost near: { IsWithin (2 ^ 46) ideal × IsWithin (2 ^ 46) tick },
+}
+
+impl Near {
+    /// The arrival of an edge at a tick, unless it is too far.
+    fn at(ideal: i64, tick: i64, node: usize) -> Option<Near> {
+        if ideal.unsigned_abs() <= FAR && tick.unsigned_abs() <= FAR {
+            Some(Near { ideal, tick, node })
+        } else {
+            None
+        }
+    }
+
+    /// The arrival of an edge that lies so many ticks before it.
+    pub(crate) fn begun(tick: i64, age: i64, node: usize) -> Option<Near> {
+        Near::at(tick.checked_sub(age)?, tick, node)
+    }
+
+    /// The tick so many later.
+    pub(crate) fn tick_after(self, ticks: i64) -> i64
+        requires { IsNear 131072 ticks }
+    {
+        self.tick + ticks
+    }
+
+    /// The same edge so many ticks later, unless that is too far.
+    pub(crate) fn later(self, ticks: i64, node: usize) -> Option<Near>
+        requires { IsNear 131072 ticks }
+    {
+        Near::at(self.ideal, self.tick_after(ticks), node)
+    }
+
+    /// What the layers above see of it.
+    pub(crate) fn arrival(self) -> Arrival
+        ensures { IsWithin (2 ^ 46) result.ideal × IsWithin (2 ^ 46) result.tick }
+    {
+        Arrival {
+            ideal: self.ideal,
+            tick: self.tick,
+            node: self.node,
+        }
+    }
+}
