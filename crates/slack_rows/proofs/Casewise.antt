@@ -1,0 +1,197 @@
+-- The least slack of a limit, with what is told of it in one case more.
+use Rattle.std.proofs.Common.{inl, inr, ◌≡◌, ◌⊎◌, ℕ, zero, suc, ◌+◌, ◌<◌, ◌≤◌, Bool, true, false, not, ◌&&◌, ◌||◌, cond, refl, sym, ap, subst, ◌∙◌, arith, List, [], ◌∷◌, ◌++◌, append-nil, map, length, Option, Some, None}
+use Rattle.std.specs.Prelude.{filter, slice_index_or}
+use Rattle.std.specs.List.{AllByRecursion}
+use Rattle.std.proofs.lemmas.List.{get_or_push, length-append, length-map, map-append}
+use Rattle.scald_base.specs.Time.{period}
+use Rattle.flat_circuit.specs.Circuit.{Circuit}
+use Rattle.slack_rows.specs.declared.parameter.Parameter.{Parameter}
+use Rattle.slack_rows.specs.declared.rows.Least.{Least}
+use Rattle.slack_rows.specs.declared.slack.Told.{Told as Found}
+use Rattle.slack_rows.specs.Slack.{Slack, Free, Told, is_less, lesser, told_alone}
+use Rattle.slack_rows.specs.Limit.{Case, has_slack, least_told, same_slack, told_case, worst}
+use Rattle.slack_rows.specs.Known.{AreSets, IfFound, IsFirst, IsJoined, IsKept, IsKnown, IsLeast, IsLowered, IsLoweredBy, IsNumbered, IsSetWith, numbers_of, places_of}
+use Rattle.slack_rows.specs.Views.{Tells, slack_by, told_by_found}
+use Rattle.slack_rows.proofs.Comparing.{less_not, none_less, none_same}
+use Rattle.slack_rows.proofs.Kept.{filter_more}
+use Rattle.slack_rows.proofs.Ordered.{before_free, free_is_last}
+use Rattle.slack_rows.proofs.Places.{numbers_kept, numbers_new, places_new, places_none, within_more, within_new}
+use Rattle.slack_rows.proofs.Tellings.{least_map_more}
+
+abbrev number_of_case : Case → ℕ
+number_of_case case = case.number
+
+module _ (c : Circuit) (cases : List Case) (one : Case) (q : Parameter) where
+  abbrev before : Told
+  before = least_told c cases q.subject q.word
+
+  abbrev here : Told
+  here = told_case c q.subject q.word one
+
+  abbrev after : Told
+  after = least_told c (cases ++ one ∷ []) q.subject q.word
+
+  -- ---- the least
+
+  after_is : after ≡ lesser before here
+  after_is = least_map_more (told_case c q.subject q.word) cases one
+
+  stays : is_less here.slack before.slack ≡ false → after ≡ before
+  stays more = after_is ∙ ap (λ (b : Bool). cond b here before) more
+
+  falls : is_less here.slack before.slack ≡ true → after ≡ here
+  falls less = after_is ∙ ap (λ (b : Bool). cond b here before) less
+
+  -- ---- the cases that have it
+
+  abbrev have : Slack → List Case → List Case
+  have slack some = filter (has_slack c q.subject q.word slack) some
+
+  have_more : (slack : Slack) (b : Bool) → same_slack here.slack slack ≡ b →
+      map number_of_case (have slack (cases ++ one ∷ [])) ≡ map number_of_case (have slack cases ++ cond b (one ∷ []) [])
+  have_more slack b is =
+      ap (map number_of_case) (filter_more (has_slack c q.subject q.word slack) cases one
+      ∙ ap (λ (x : Bool). have slack cases ++ cond x (one ∷ []) []) is)
+
+  differs : (a b : Bool) → b ≡ true → (not a && not b) ≡ false
+  differs true b is = refl
+  differs false b is = ap not is
+
+  equals : (a b : Bool) → a ≡ false → b ≡ false → (not a && not b) ≡ true
+  equals a b first second = ap (λ (x : Bool). not x && not b) first ∙ ap not second
+
+  cases_stay : is_less here.slack before.slack ≡ false → is_less before.slack here.slack ≡ true →
+      (worst c (cases ++ one ∷ []) q.subject q.word).cases ≡ (worst c cases q.subject q.word).cases
+  cases_stay more less =
+      ap (λ (told : Told). map number_of_case (have told.slack (cases ++ one ∷ []))) (stays more)
+      ∙ have_more before.slack false (differs (is_less here.slack before.slack) (is_less before.slack here.slack) less)
+      ∙ ap (map number_of_case) (append-nil (have before.slack cases))
+
+  cases_join : is_less here.slack before.slack ≡ false → is_less before.slack here.slack ≡ false →
+      (worst c (cases ++ one ∷ []) q.subject q.word).cases ≡ (worst c cases q.subject q.word).cases ++ one.number ∷ []
+  cases_join more less =
+      ap (λ (told : Told). map number_of_case (have told.slack (cases ++ one ∷ []))) (stays more)
+      ∙ have_more before.slack true (equals (is_less here.slack before.slack) (is_less before.slack here.slack) more less)
+      ∙ map-append number_of_case (have before.slack cases) (one ∷ [])
+
+  cases_begin : is_less here.slack before.slack ≡ true →
+      (worst c (cases ++ one ∷ []) q.subject q.word).cases ≡ one.number ∷ []
+  cases_begin less =
+      ap (λ (told : Told). map number_of_case (have told.slack (cases ++ one ∷ []))) (falls less)
+      ∙ have_more here.slack true (equals (is_less here.slack here.slack) (is_less here.slack here.slack) (less_not here.slack) (less_not here.slack))
+      ∙ ap (λ (some : List Case). map number_of_case (some ++ one ∷ []))
+      (none_same (told_case c q.subject q.word) here.slack before.slack cases less
+      (none_less (told_case c q.subject q.word) (told_alone Free) cases))
+
+  -- ---- their numbers
+
+  numbers_more : map number_of_case (cases ++ one ∷ []) ≡ map number_of_case cases ++ one.number ∷ []
+  numbers_more = map-append number_of_case cases (one ∷ [])
+
+  count_more : length (cases ++ one ∷ []) ≡ length cases + 1
+  count_more = length-append cases (one ∷ [])
+
+  below_numbers : (places : List ℕ) → AllByRecursion (λ place. place < length cases) places →
+      AllByRecursion (λ place. place < length (map number_of_case cases)) places
+  below_numbers places all =
+      subst (λ (n : ℕ). AllByRecursion (λ place. place < n) places) (sym (length-map cases number_of_case)) all
+
+  -- ---- what is known
+
+  module _ (sets new : List (ℕ × ℕ)) (are : AreSets sets) where
+    kept : (least : Least) → is_less here.slack before.slack ≡ false → is_less before.slack here.slack ≡ true → new ≡ sets →
+        IsLeast c cases sets q least → IsLeast c (cases ++ one ∷ []) new q least
+    kept least more less same known =
+        record {
+          told = stays more ∙ known.told;
+          have_it =
+              ap (λ (numbers : List ℕ). numbers_of numbers (places_of new least.cases)) numbers_more
+              ∙ ap (λ (some : List (ℕ × ℕ)). numbers_of (map number_of_case cases ++ one.number ∷ []) (places_of some least.cases)) same
+              ∙ numbers_kept (map number_of_case cases) one.number (places_of sets least.cases) (below_numbers (places_of sets least.cases) known.within)
+              ∙ known.have_it ∙ sym (cases_stay more less);
+          first = (known.first.0, ap (λ (some : List (ℕ × ℕ)). places_of some least.cases) same ∙ known.first.1);
+          within =
+              subst (λ (n : ℕ). AllByRecursion (λ place. place < n) (places_of new least.cases)) (sym count_more)
+              (subst (λ (some : List (ℕ × ℕ)). AllByRecursion (λ place. place < length cases + 1) (places_of some least.cases)) (sym same)
+              (within_more (length cases) (places_of sets least.cases) known.within));
+        }
+
+    joined : (least found : Least) (case : ℕ) → case ≡ length cases → least.cases ≤ length sets →
+        is_less here.slack before.slack ≡ false → is_less before.slack here.slack ≡ false →
+        IsLeast c cases sets q least → IsJoined sets least case new found → IsLeast c (cases ++ one ∷ []) new q found
+    joined least found case last numbered more less known is =
+        let at : places_of new found.cases ≡ places_of sets least.cases ++ case ∷ [] =
+        places_new sets are (least.cases, case) found.cases new numbered is.set in
+        let places : List ℕ = places_of sets least.cases in
+        record {
+          told = stays more ∙ known.told ∙ ap (told_by_found (period c.header)) (sym is.same_told);
+          have_it =
+              ap (λ (numbers : List ℕ). numbers_of numbers (places_of new found.cases)) numbers_more
+              ∙ ap (numbers_of (map number_of_case cases ++ one.number ∷ [])) at
+              ∙ numbers_new (map number_of_case cases) one.number (places_of sets least.cases) case
+              (below_numbers (places_of sets least.cases) known.within) (length-map cases number_of_case ∙ sym last)
+              ∙ ap (λ (numbers : List ℕ). numbers ++ one.number ∷ []) known.have_it ∙ sym (cases_join more less);
+          first = (
+            known.first.0 ++ case ∷ [],
+            at ∙ ap (λ (some : List ℕ). some ++ case ∷ []) known.first.1
+                ∙ ap (λ (own : ℕ). own ∷ known.first.0 ++ case ∷ []) (sym is.same_case),
+          );
+          within =
+              subst (λ (n : ℕ). AllByRecursion (λ place. place < n) (places_of new found.cases)) (sym count_more)
+              (subst (AllByRecursion (λ place. place < length cases + 1)) (sym at)
+              (subst (λ (own : ℕ). AllByRecursion (λ place. place < length cases + 1) (places_of sets least.cases ++ own ∷ [])) (sym last)
+              (within_new (length cases) (places_of sets least.cases) known.within)));
+        }
+
+    begun : (told : Found) (found : Least) (case : ℕ) → case ≡ length cases → here ≡ told_by_found (period c.header) told →
+        is_less here.slack before.slack ≡ true → IsFirst sets told case new found → IsLeast c (cases ++ one ∷ []) new q found
+    begun told found case last tells less is =
+        let at : places_of new found.cases ≡ case ∷ [] =
+        places_new sets are (0, case) found.cases new (omega arith) is.set
+        ∙ ap (λ (some : List ℕ). some ++ case ∷ []) (places_none sets) in
+        record {
+          told = falls less ∙ tells ∙ ap (told_by_found (period c.header)) (sym is.same_told);
+          have_it =
+              ap (λ (numbers : List ℕ). numbers_of numbers (places_of new found.cases)) numbers_more
+              ∙ ap (numbers_of (map number_of_case cases ++ one.number ∷ [])) at
+              ∙ ap (λ (n : ℕ). n ∷ []) (get_or_push (map number_of_case cases) one.number 0 case (length-map cases number_of_case ∙ sym last))
+              ∙ sym (cases_begin less);
+          first = ([], at ∙ ap (λ (own : ℕ). own ∷ []) (sym is.same_case));
+          within =
+              subst (λ (n : ℕ). AllByRecursion (λ place. place < n) (places_of new found.cases)) (sym count_more)
+              (subst (AllByRecursion (λ place. place < length cases + 1)) (sym at)
+              (subst (λ (own : ℕ). AllByRecursion (λ place. place < length cases + 1) (own ∷ [])) (sym last) (omega arith, tt)));
+        }
+
+    -- with what is told in the case more
+    pub known_more : (least found : Option Least) (told : Option Found) (case : ℕ) → case ≡ length cases →
+        IsNumbered sets least → Tells (period c.header) told here → IsKnown c cases sets q least →
+        IsLowered sets least told case new found → IsKnown c (cases ++ one ∷ []) new q found
+    known_more None found None case last numbered tells known is =
+        let more : is_less here.slack before.slack ≡ false =
+        ap (λ (s : Slack). is_less s before.slack) tells ∙ free_is_last before.slack in
+        subst (IsKnown c (cases ++ one ∷ []) new q) (sym is.same) (ap (λ (told : Told). told.slack) (stays more) ∙ known)
+    known_more (Some least) found None case last numbered tells known is =
+        let more : is_less here.slack before.slack ≡ false =
+        ap (λ (s : Slack). is_less s before.slack) tells ∙ free_is_last before.slack in
+        let less : is_less before.slack here.slack ≡ true =
+        ap (λ (s : Slack). is_less before.slack s) tells ∙ ap (λ (told : Told). is_less told.slack Free) known.told ∙ before_free least.told.slack in
+        subst (IsKnown c (cases ++ one ∷ []) new q) (sym is.same) (kept least more less is.same_sets known)
+    known_more None None (Some told) case last numbered tells known is = absurd is
+    known_more None (Some found) (Some told) case last numbered tells known is =
+        begun told found case last tells
+        (ap (λ (s : Slack). is_less here.slack s) known ∙ ap (λ (t : Told). is_less t.slack Free) tells ∙ before_free told.slack) is
+    known_more (Some least) found (Some told) case last numbered tells known is =
+        by (is_less (slack_by told.slack) (slack_by least.told.slack)) (is_less (slack_by least.told.slack) (slack_by told.slack))
+        (ap (λ (t : Told). is_less t.slack before.slack) tells ∙ ap (λ (t : Told). is_less (slack_by told.slack) t.slack) known.told)
+        (ap (λ (t : Told). is_less before.slack t.slack) tells ∙ ap (λ (t : Told). is_less t.slack (slack_by told.slack)) known.told)
+        found is
+      where
+        by : (a b : Bool) → is_less here.slack before.slack ≡ a → is_less before.slack here.slack ≡ b → (some : Option Least) →
+            IsLoweredBy a b sets least told case new some → IsKnown c (cases ++ one ∷ []) new q some
+        by true b less other None lowered = absurd lowered
+        by true b less other (Some some) lowered = begun told some case last tells less lowered
+        by false true less other some lowered =
+            subst (IsKnown c (cases ++ one ∷ []) new q) (sym lowered.same) (kept least less other lowered.same_sets known)
+        by false false less other None lowered = absurd lowered
+        by false false less other (Some some) lowered = joined least some case last numbered less other known lowered

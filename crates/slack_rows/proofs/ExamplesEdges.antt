@@ -1,0 +1,85 @@
+-- Spans of a clock, checkers without a window, ways to several edges and pulses that may come again,
+-- worked out on paper.
+use Rattle.std.specs.Prelude.{◌≡◌, ℕ, ◌+◌, ◌-◌, Bool, true, false, List, [], ◌∷◌, ℤ, pos, negsuc, Option, Some, None}
+use Rattle.std.proofs.Common.{refl}
+use Rattle.scald_base.specs.Clock.{back}
+use Rattle.scald_base.specs.declared.assertion.AssertSpec.TheVariants.{Stable}
+use Rattle.step_values.specs.Cell.{values}
+use Rattle.wave_core.specs.Slots.{earlier}
+use Rattle.skew_algebra.specs.Wave.{fold, normal, moved}
+use Rattle.gate_eval.specs.Hold.{hazard}
+use Rattle.element_kinds.specs.declared.kind.Kind.TheVariants.{SetupHold}
+use Rattle.flat_circuit.specs.Circuit.{Circuit}
+use Rattle.fixpoint_engine.specs.Pins.{read}
+use Rattle.fixpoint_engine.specs.Waves.{Waves, waves_of}
+use Rattle.critical_paths.specs.Cause.{made1, made2, made3, made4}
+use Rattle.critical_paths.specs.Walk.{path_of_stop}
+use Rattle.critical_paths.specs.Arrival.{Arrival, arrivals}
+use Rattle.critical_paths.specs.Region.{Region}
+use Rattle.critical_paths.proofs.Circuits.{checker, circuit, clock, input, pin, wave}
+use Rattle.slack_rows.specs.Slack.{Ticks, no_launches, told_after, told_before}
+use Rattle.slack_rows.specs.declared.parameter.Word.TheVariants.{Setup, Hold}
+use Rattle.slack_rows.specs.declared.parameter.Subject.TheVariants.{Instance as OfInstance}
+use Rattle.slack_rows.specs.Limit.{told_in}
+use Rattle.slack_rows.specs.Pulse.{may_change_again}
+use Rattle.slack_rows.specs.Watch.{span_watch, spans}
+use Rattle.slack_rows.specs.Way.{Guard, least_after, least_before}
+
+-- ---- from the rise at 2 or 3 to the last fall at 7
+
+one_span : spans 16 (fold values (wave "00RR11FF00000000")) ≡ record { first = 2; last = 7 } ∷ []
+unfolding earlier back
+one_span = refl
+
+-- the input is quiet from 1 to 8
+span_before : (told_before 16 no_launches (span_watch 16 (1, 1) (fold values (wave "00RR11FF00000000")) (fold values (wave "CSSSSSSSSCCCCCCC")))).slack
+    ≡ Ticks (pos 1)
+unfolding earlier back
+span_before = refl
+
+span_after : (told_after 16 no_launches (span_watch 16 (1, 1) (fold values (wave "00RR11FF00000000")) (fold values (wave "CSSSSSSSSCCCCCCC")))).slack
+    ≡ Ticks (pos 0)
+unfolding earlier back
+span_after = refl
+
+-- ---- no window: quiet in 3 and 4, up to the rise at 4, and in 5 to 7 after it
+
+abbrev windowless : Circuit
+windowless = circuit (input (clock 4 6 (0, 0)) ∷ input (Stable []) ∷ []) (checker SetupHold (0, 0) (pin 0 ∷ pin 1 ∷ []) ∷ [])
+
+abbrev quiet_about : Waves
+quiet_about = waves_of (wave "0000R1F000000000" ∷ wave "CCCSSSSSCCCCCCCC" ∷ [])
+
+quiet_up_to : (told_in windowless quiet_about (OfInstance 0) Setup).slack ≡ Ticks (pos 2)
+unfolding told_in path_of_stop arrivals back earlier moved normal hazard made1 made2 made3 made4
+quiet_up_to = refl
+
+quiet_from : (told_in windowless quiet_about (OfInstance 0) Hold).slack ≡ Ticks (pos 3)
+unfolding told_in path_of_stop arrivals back earlier moved normal hazard made1 made2 made3 made4
+quiet_from = refl
+
+-- ---- a way of 16 ticks from the edge at 4, by edges at 0 and 8
+
+abbrev guard_at : ℕ → Guard
+guard_at tick = record { window = record { edge_first = tick; edge_last = tick; opens = tick - 1; closes = tick + 1 }; edge = pos tick }
+
+abbrev arrival : Arrival
+arrival = record { source = 0; edge = pos 4; tick = 20 }
+
+-- it is to be there by 8 - 1
+before_the_next : least_before 16 (arrival ∷ []) (guard_at 48 ∷ guard_at 56 ∷ []) ≡ Some (negsuc 12)
+before_the_next = refl
+
+-- and not before 0 + 2
+after_the_last : least_after 16 (arrival ∷ []) (guard_at 48 ∷ guard_at 56 ∷ []) ≡ Some (pos 18)
+after_the_last = refl
+
+-- ---- pulses
+
+comes_again : may_change_again (read (wave "00CC000000000000").cells) (2, 1) ≡ true
+unfolding earlier back
+comes_again = refl
+
+comes_once : may_change_again (read (wave "00C0000000000000").cells) (2, 1) ≡ false
+unfolding earlier back
+comes_once = refl

@@ -1,0 +1,68 @@
+-- Paths that go on as more of them are found, and the pins that they go by.
+use Rattle.std.proofs.Common.{◌≡◌, ℕ, ◌<◌, List, [], ◌∷◌, ◌++◌, length, get_or, slice_get, refl, sym, ap, subst, ◌∙◌, append-nil, append_assoc, Some}
+use Rattle.std.specs.List.{All}
+use Rattle.std.proofs.lemmas.List.Elements.{All-nil, All-cons, All-get_or, All-head, All-tail}
+use Rattle.std.proofs.lemmas.Option.{get_or_from_slice_get, slice_get_within}
+use Rattle.vector_names.specs.declared.bits.Target.{Target}
+use Rattle.vector_names.specs.declared.bits.Target.TheVariants.{Net as OnNet}
+use Rattle.flat_circuit.specs.declared.instance.Instance.{Instance}
+use Rattle.flat_circuit.specs.declared.instance.Pin.{Pin}
+use Rattle.flat_circuit.specs.Circuit.{Circuit, IsCircuit}
+use Rattle.flat_circuit.specs.Instances.{InstanceFits, PinExists, TargetExists}
+use Rattle.fixpoint_engine.specs.Waves.{Waves}
+use Rattle.critical_paths.specs.declared.event.Stop.{Stop}
+use Rattle.critical_paths.specs.declared.path.Node.{Node}
+use Rattle.critical_paths.specs.Told.{Grows, Knows}
+use Rattle.critical_paths.specs.Views.{IsPin}
+use Rattle.critical_paths.specs.declared.direction.Corner.{Corner}
+use Rattle.critical_paths.specs.declared.direction.Corner.TheVariants.{Late, Early}
+use Rattle.slack_rows.specs.declared.sides.Held.{Held}
+use Rattle.slack_rows.specs.declared.window.Window.{Window}
+use Rattle.slack_rows.specs.Held.{GoesOn, step_held}
+
+-- no path more
+pub goes_none : (c : Circuit) (ws : Waves) (nodes : List Node) (met : List (Stop × ℕ)) → Knows c ws nodes met → GoesOn c ws nodes nodes met
+goes_none c ws nodes met knows = record { knows = knows; grows = record { more = []; is = sym (append-nil nodes) } }
+
+-- some, and then more
+pub goes_then : (c : Circuit) (ws : Waves) (a b d : List Node) (m n : List (Stop × ℕ)) → GoesOn c ws a b m → GoesOn c ws b d n → GoesOn c ws a d n
+goes_then c ws a b d m n one two =
+    record {
+      knows = two.knows;
+      grows = record {
+        more = one.grows.more ++ two.grows.more;
+        is = two.grows.is ∙ ap (λ (l : List Node). l ++ two.grows.more) one.grows.is ∙ append_assoc a one.grows.more two.grows.more;
+      };
+    }
+
+-- what a call says by two clauses
+pub goes_by : (c : Circuit) (ws : Waves) (a b : List Node) (m : List (Stop × ℕ)) → Knows c ws b m → Grows a b → GoesOn c ws a b m
+goes_by c ws a b m knows grows = record { knows = knows; grows = grows }
+
+-- ---- pins of a circuit
+
+fits_at : (c : Circuit) (k : ℕ) (j : Instance) → IsCircuit c → slice_get c.instances k ≡ Some j → InstanceFits c.header (length c.nets) j
+fits_at c k j known at =
+    subst (InstanceFits c.header (length c.nets)) (get_or_from_slice_get c.instances k j j at)
+    (All-get_or (InstanceFits c.header (length c.nets)) c.instances k j (slice_get_within c.instances k j at) known.each)
+
+exists_on : (n i : ℕ) (target : Target) → target ≡ OnNet i → TargetExists n target → i < n
+exists_on n i target is exists = subst (TargetExists n) is exists
+
+all_pins : (c : Circuit) (pins : List Pin) → All (PinExists (length c.nets)) pins → All (IsPin c) pins
+all_pins c [] all = All-nil (IsPin c)
+all_pins c (p ∷ pins) all =
+    All-cons (IsPin c) p pins (λ i is. exists_on (length c.nets) i p.target is (All-head (PinExists (length c.nets)) p pins all))
+    (all_pins c pins (All-tail (PinExists (length c.nets)) p pins all))
+
+pub pins_exist : (c : Circuit) (k : ℕ) (j : Instance) → IsCircuit c → slice_get c.instances k ≡ Some j → All (IsPin c) j.pins
+pins_exist c k j known at = all_pins c j.pins (fits_at c k j known at).exists.reads
+
+pub pin_at : (c : Circuit) (pins : List Pin) (k : ℕ) (pin : Pin) → All (IsPin c) pins → slice_get pins k ≡ Some pin → IsPin c pin
+pin_at c pins k pin all at =
+    subst (IsPin c) (get_or_from_slice_get pins k pin pin at) (All-get_or (IsPin c) pins k pin (slice_get_within pins k pin at) all)
+
+-- data is held against a step of the clock
+pub step_pin : (held : Held) (w : Window) (corner : Corner) → (step_held held w corner).pin ≡ held.clock
+step_pin held w Late = refl
+step_pin held w Early = refl

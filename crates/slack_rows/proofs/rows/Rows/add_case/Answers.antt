@@ -1,0 +1,65 @@
+use Rattle.std.proofs.Common.{◌≡◌, ℕ, ◌+◌, ◌<◌, ◌≤◌, ◌++◌, ◌∷◌, [], List, Option, length, ap, sym, subst, ◌∙◌, arith, slice_index_or}
+use Rattle.std.specs.Prelude.{slice_get}
+use Rattle.std.proofs.lemmas.List.{length-map}
+use Rattle.fixpoint_engine.specs.Waves.{waves_of}
+use Rattle.slack_rows.specs.declared.parameter.Parameter.{Parameter}
+use Rattle.slack_rows.specs.declared.rows.Least.{Least}
+use Rattle.slack_rows.specs.Known.{AreKnown}
+use Rattle.slack_rows.specs.Limit.{Case}
+use Rattle.slack_rows.proofs.Keeping.{tells_now}
+use Rattle.slack_rows.proofs.Levels.{read_at}
+use Rattle.slack_rows.proofs.Stepwise.{passed_all, passed_more}
+use Rattle.slack_rows.proofs.rows.Rows.add_case.Goals as goal
+
+pub loop-place-preserved : goal.loop-place-preserved
+loop-place-preserved g c =
+    let circuit = c.args.view.now.circuit.now in
+    let ws = waves_of c.args.view.now.waves.now in
+    let limits = c.args.self.now.parameters in
+    let least = c.loop-place.self.least in
+    let place = c.loop-place.place in
+    let kept = c.loop-place.invariant in
+    let each = c.loop-place.self.each in
+    let long = c.len-place-end.ensures in
+    let less = c.loop-place-test.true in
+    let same_limits : length c.loop-place.self.parameters ≡ length c.args.self.now.parameters =
+    ap (λ (xs : List Parameter). length xs) c.loop-place.invariant.parameters in
+    let inside : c.loop-place.place < length c.args.self.now.parameters = omega (arith, long, less) in
+    let within : c.loop-place.place < length c.loop-place.self.least = omega (arith, long, less, each, same_limits) in
+    let now : slice_get c.loop-place.self.least c.loop-place.place ≡ _ =
+    ap (λ (xs : List (Option Least)). slice_get xs place) (sym c.as_slice-in-loop-place.ensures)
+    ∙ read_at c.as_slice-in-loop-place.result.now place _
+    (subst (λ (xs : List (Option Least)). place < length xs) (sym c.as_slice-in-loop-place.ensures) within) in
+    let here : slice_get c.args.self.now.parameters c.loop-place.place ≡ _ =
+    ap (λ (xs : List Parameter). slice_get xs place) (sym (c.as_slice.ensures ∙ kept.parameters))
+    ∙ read_at c.as_slice.result.now place _
+    (subst (λ (xs : List Parameter). place < length xs) (sym (c.as_slice.ensures ∙ kept.parameters)) inside) in
+    record {
+      parameters = kept.parameters;
+      cases = kept.cases;
+      knows = c.in_ok-least.ensures.paths.knows;
+      slacks = c.in_ok-slacks.ensures.told;
+      passed = λ cases one waves known.
+          (let numbers = length-map cases (λ (case : Case). case.number) in
+          let count = ap (λ (xs : List ℕ). length xs) known.are_numbers in
+          let case = c.len-case.ensures in
+          passed_more circuit cases one limits least c.set.new.self c.loop-place.self.sets.keys c.lowered.new.sets.keys place _ _
+          c.in_ok-least.least c.of.result c.len-case.result here now c.set.ensures (omega (arith, case, count, numbers))
+          (tells_now circuit ws one c.in_ok-slacks.slacks limits place _ c.of.result c.of.ensures known.are_limits here waves
+          c.in_ok-slacks.ensures.told)
+          c.in_ok-least.ensures.least (kept.passed cases one waves known));
+    }
+
+pub returns : goal.returns
+returns g c = λ cases one number waves known.
+    let circuit = c.args.view.now.circuit.now in
+    let limits = c.args.self.now.parameters in
+    let long = c.len-place-end.ensures in
+    let past = c.loop-place-test.false in
+    subst (λ (xs : List Parameter). AreKnown circuit (cases ++ one ∷ []) xs c.loop-place.self.least c.push.new.self c.loop-place.self.sets.keys)
+    (sym c.loop-place.invariant.parameters)
+    (passed_all circuit cases one limits c.loop-place.self.least c.loop-place.self.sets.keys c.loop-place.place c.args.self.now.cases
+    c.push.new.self (omega (arith, long, past)) known.are_numbers
+    (c.in_ok-push.ensures.ok ∙ ap (λ (xs : List ℕ). xs ++ c.args.number ∷ []) c.loop-place.invariant.cases
+    ∙ ap (λ (n : ℕ). c.args.self.now.cases ++ n ∷ []) (sym number))
+    (c.loop-place.invariant.passed cases one waves known))

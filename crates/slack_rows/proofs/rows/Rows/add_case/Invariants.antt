@@ -1,0 +1,20 @@
+use Rattle.std.proofs.Common.{◌≡◌, List}
+use Rattle.fixpoint_engine.specs.Waves.{waves_of}
+use Rattle.critical_paths.specs.Told.{Knows}
+use Rattle.slack_rows.specs.Known.{AreKnown, SlacksKnown}
+use Rattle.slack_rows.specs.Limit.{Case}
+use Rattle.slack_rows.proofs.Stepwise.{Passed}
+use Rattle.slack_rows.proofs.rows.Rows.add_case.Given as goal
+
+-- the limits before the place have the new case too
+abbrev pub invariant-loop-place : goal.invariant-loop-place
+invariant-loop-place g l =
+    record {
+      parameters : l.self.parameters ≡ l.fn.self.parameters;
+      cases : l.self.cases ≡ l.fn.self.cases;
+      knows : Knows l.view.circuit.now (waves_of l.view.waves.now) l.self.paths.nodes l.self.paths.met.entries;
+      slacks : SlacksKnown l.view.circuit.now (waves_of l.view.waves.now) l.subject l.slacks;
+      passed : (cases : List Case) (one : Case) → one.waves ≡ waves_of l.view.waves.now →
+          AreKnown l.view.circuit.now cases l.fn.self.parameters l.fn.self.least l.fn.self.cases l.fn.self.sets.keys →
+          Passed l.view.circuit.now cases one l.fn.self.parameters l.self.least l.self.sets.keys l.place;
+    }

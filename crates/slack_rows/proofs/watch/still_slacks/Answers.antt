@@ -1,0 +1,139 @@
+use Rattle.std.proofs.Common.{◌≡◌, ℕ, ◌+◌, ◌<◌, ◌≤◌, Bool, true, false, not, ◌&&◌, List, [], ◌∷◌, length, map, None, refl, sym, ap, subst, ◌∙◌, arith}
+use Rattle.std.specs.Prelude.{◌==◌}
+use Rattle.std.specs.List.{AllByRecursion}
+use Rattle.scald_base.specs.Time.{period}
+use Rattle.fixpoint_engine.specs.Waves.{waves_of}
+use Rattle.critical_paths.specs.declared.region.Region.{Region as Ticked}
+use Rattle.critical_paths.specs.declared.region.Slots.{Slots}
+use Rattle.critical_paths.specs.Event.{Events}
+use Rattle.critical_paths.specs.Region.{IsCyclic, Region, all_events, regions, some_event}
+use Rattle.critical_paths.specs.Views.{ticks_of_region}
+use Rattle.slack_rows.specs.declared.slack.Reason.TheVariants.{Data}
+use Rattle.slack_rows.specs.declared.slack.Slacks.{Slacks}
+use Rattle.slack_rows.specs.Held.{AreChanges, AreSlots, launches_of, place_in, two_of, windows_about}
+use Rattle.slack_rows.specs.Laws.{IsPlaced}
+use Rattle.slack_rows.specs.Slack.{NoNumber, Nowhere, told_alone, told_of}
+use Rattle.slack_rows.specs.Views.{told_by_found, told_none}
+use Rattle.slack_rows.specs.Window.{Window, about}
+use Rattle.slack_rows.proofs.Checkers.{all_placed}
+use Rattle.slack_rows.proofs.Parting.{no_first_way, no_last_way, none_parts, parts_always, parts_free, parts_never, parts_unmet, parts_windows, some_parts}
+use Rattle.slack_rows.proofs.Watching.{changes_are, nothing_here, some_where_all, something_here, windows_are}
+use Rattle.slack_rows.proofs.watch.still_slacks.Goals as goal
+
+none_of : (f : Region → Ticked) (rs : List Region) → length (map f rs) ≡ 0 → rs ≡ []
+none_of f [] none = refl
+none_of f (r ∷ rs) none = absurd (omega (arith, none))
+
+-- a region, or all slots, tell an event
+some_of : (p : ℕ) (ev : Events) (slots : Slots) → 2 ≤ p → IsCyclic p ev → AreSlots p ev slots →
+    (not slots.are_all && (length slots.regions == 0)) ≡ false → some_event p ev ≡ true
+some_of p ev slots long cyclic are some = by (all_events p ev) refl
+  where
+    by : (b : Bool) → all_events p ev ≡ b → some_event p ev ≡ true
+    by true all = some_where_all p ev cyclic long all
+    by false all =
+        something_here p ev cyclic long
+        (λ none. some_parts slots.are_all (length slots.regions) some (are.all ∙ all) (ap length are.regions ∙ none))
+
+pub returns-then-is_free-clause-told : goal.returns-then-is_free-clause-told
+returns-then-is_free-clause-told g c =
+    let circuit = c.args.view.now.circuit.now in
+    let ws = waves_of c.args.view.now.waves.now in
+    let p = period circuit.header in
+    let least = c.period-period.ensures.shortest in
+    let long : 2 ≤ p = omega (arith, least, c.period-period.ensures.is) in
+    let held = c.args.held in
+    let changes = c.args.changes.now in
+    let none : Slacks = record { level = None; before = None; after = None } in
+    let parts = none_parts changes.are_all (length changes.regions) (sym c.are_none-is_free.ensures ∙ c.if-is_free.true) in
+    λ ev quiet cyclic still are are_quiet.
+    parts_free p long ev quiet cyclic still (launches_of circuit ws held) (two_of circuit ws held) (place_in held) c.args.direction
+    none (no_last_way circuit ws held) (no_first_way circuit ws held)
+    (nothing_here p ev cyclic long (sym are.all ∙ parts.0) (sym (ap length are.regions) ∙ parts.1)) refl
+
+pub returns-then-is_unmet-clause-told : goal.returns-then-is_unmet-clause-told
+returns-then-is_unmet-clause-told g c =
+    let circuit = c.args.view.now.circuit.now in
+    let ws = waves_of c.args.view.now.waves.now in
+    let p = period circuit.header in
+    let least = c.period-period.ensures.shortest in
+    let long : 2 ≤ p = omega (arith, least, c.period-period.ensures.is) in
+    let held = c.args.held in
+    let slots = c.args.still.now in
+    let none : Slacks = record { level = None; before = None; after = None } in
+    let parts = none_parts slots.are_all (length slots.regions) (sym c.are_none-is_unmet.ensures ∙ c.if-is_unmet.true) in
+    λ ev quiet cyclic still are are_quiet.
+    parts_unmet p long ev quiet cyclic still (launches_of circuit ws held) (two_of circuit ws held) (place_in held) c.args.direction
+    none (no_last_way circuit ws held) (no_first_way circuit ws held)
+    (none_of ticks_of_region (regions p quiet) (sym (ap length are_quiet.regions) ∙ parts.1)) (sym are_quiet.all ∙ parts.0) refl
+
+pub returns-then-still-clause-told : goal.returns-then-still-clause-told
+returns-then-still-clause-told g c =
+    let circuit = c.args.view.now.circuit.now in
+    let ws = waves_of c.args.view.now.waves.now in
+    let p = period circuit.header in
+    let least = c.period-period.ensures.shortest in
+    let long : 2 ≤ p = omega (arith, least, c.period-period.ensures.is) in
+    let held = c.args.held in
+    let d = c.args.direction in
+    let changes = c.args.changes.now in
+    let told = told_none c.never_still.result c.place_of.result d in
+    let told_is : told_of (place_in held) d (told_alone NoNumber) ≡ told_by_found p told =
+    (λ i. record {
+      slack = NoNumber;
+      place = sym c.never_still.ensures i;
+      pin = sym c.place_of.ensures i;
+      direction = d;
+    }) in
+    λ ev quiet cyclic still are are_quiet.
+    parts_never p long ev quiet cyclic still (launches_of circuit ws held) (two_of circuit ws held) (place_in held) d
+    c.level.result (no_last_way circuit ws held) (no_first_way circuit ws held) told (sym are_quiet.all ∙ c.if-still.true)
+    (some_of p ev changes long cyclic are (sym c.are_none-is_free.ensures ∙ c.if-is_free.false)) told_is c.level.ensures
+
+pub returns-then-changes-clause-told : goal.returns-then-changes-clause-told
+returns-then-changes-clause-told g c =
+    let circuit = c.args.view.now.circuit.now in
+    let ws = waves_of c.args.view.now.waves.now in
+    let p = period circuit.header in
+    let least = c.period-period.ensures.shortest in
+    let long : 2 ≤ p = omega (arith, least, c.period-period.ensures.is) in
+    let held = c.args.held in
+    let d = c.args.direction in
+    let slots = c.args.still.now in
+    let told = told_none Data c.place_of-then-changes.result d in
+    let told_is : told_of (place_in held) d (told_alone NoNumber) ≡ told_by_found p told =
+    (λ i. record { slack = NoNumber; place = Nowhere; pin = sym c.place_of-then-changes.ensures i; direction = d }) in
+    λ ev quiet cyclic still are are_quiet.
+    parts_always p long ev quiet cyclic still (launches_of circuit ws held) (two_of circuit ws held) (place_in held) d
+    c.none.result (no_last_way circuit ws held) (no_first_way circuit ws held) told (sym are_quiet.all ∙ c.if-still.false)
+    (λ none. some_parts slots.are_all (length slots.regions) (sym c.are_none-is_unmet.ensures ∙ c.if-is_unmet.false) c.if-still.false
+    (ap length are_quiet.regions ∙ ap (λ (rs : List Region). length (map ticks_of_region rs)) none))
+    (sym are.all ∙ c.if-changes.true) told_is c.none.ensures
+
+pub about_all-requires-clause-limits : goal.about_all-requires-clause-limits
+about_all-requires-clause-limits g c =
+    let least = c.period-period.ensures.shortest in
+    omega (arith, least, c.period-period.ensures.is)
+
+pub returns-clause-told : goal.returns-clause-told
+returns-clause-told g c =
+    let circuit = c.args.view.now.circuit.now in
+    let ws = waves_of c.args.view.now.waves.now in
+    let p = period circuit.header in
+    let least = c.period-period.ensures.shortest in
+    let long : 2 ≤ p = omega (arith, least, c.period-period.ensures.is) in
+    let held = c.args.held in
+    let d = c.args.direction in
+    let changes = c.args.changes.now in
+    λ ev quiet cyclic still are are_quiet.
+    let edges_are = c.as_slice-edges.ensures ∙ are_quiet.regions in
+    let windows = windows_about p (1, 0) c.as_slice-edges.result.now in
+    let are_windows : windows ≡ map (about p (1, 0)) (regions p quiet) =
+    ap (windows_about p (1, 0)) edges_are ∙ windows_are p (1, 0) (regions p quiet) (omega (arith, long)) in
+    parts_windows p long ev quiet cyclic still (launches_of circuit ws held) (two_of circuit ws held) (place_in held) d
+    c.in_ok-found.found (no_last_way circuit ws held) (no_first_way circuit ws held) windows are_windows
+    (sym are_quiet.all ∙ c.if-still.false)
+    (some_of p ev changes long cyclic are (sym c.are_none-is_free.ensures ∙ c.if-is_free.false)) (sym are.all ∙ c.if-changes.false)
+    (c.in_ok-found.ensures.told ev
+    (subst (AreChanges p ev) (sym c.as_slice-moving.ensures) (changes_are p ev changes cyclic are c.if-changes.false))
+    (subst (AllByRecursion (IsPlaced p)) (sym are_windows) (all_placed p quiet (1, 0) (omega arith) (omega (arith, long)))))

@@ -1,0 +1,12 @@
+use Rattle.fixpoint_engine.specs.Waves.{waves_of}
+use Rattle.slack_rows.proofs.Pathing.{goes_none, goes_then}
+use Rattle.slack_rows.proofs.ways.edges.Goals as goal
+
+pub loop-edge-init : goal.loop-edge-init
+loop-edge-init g c =
+    goes_none c.args.view.now.circuit.now (waves_of c.args.view.now.waves.now) c.args.paths.now.nodes c.args.paths.now.met.entries c.requires.knows
+
+pub loop-edge-preserved : goal.loop-edge-preserved
+loop-edge-preserved g c =
+    goes_then c.args.view.now.circuit.now (waves_of c.args.view.now.waves.now) c.args.paths.now.nodes c.loop-edge.paths.nodes _ c.loop-edge.paths.met.entries _
+    c.loop-edge.invariant c.in_ok-ideal.ensures.paths

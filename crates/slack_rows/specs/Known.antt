@@ -1,0 +1,168 @@
+-- What is known of all limits over some cases.
+use Rattle.std.specs.Prelude.{◌≡◌, ℕ, zero, suc, ◌+◌, ◌-◌, ◌<◌, ◌≤◌, ◌⊎◌, Bool, true, false, not, ◌&&◌, is_none, List, [], ◌∷◌, ◌++◌, length, map, slice_get, slice_index_or, nat_le, if◌then◌else◌, Option, Some, None}
+use Rattle.std.specs.List.{All, AllByRecursion, list_all, list_any}
+use Rattle.scald_base.specs.Time.{period}
+use Rattle.flat_circuit.specs.Circuit.{Circuit}
+use Rattle.fixpoint_engine.specs.Waves.{Waves}
+use Rattle.slack_rows.specs.declared.parameter.Parameter.{Parameter}
+use Rattle.slack_rows.specs.declared.parameter.Subject.{Subject}
+use Rattle.slack_rows.specs.declared.parameter.Word.{Word as Limit}
+use Rattle.slack_rows.specs.declared.parameter.Word.TheVariants.{Setup, Hold, High, Low, Gate, Before as GateBefore, After as GateAfter, Assert, From as StableFrom, To as StableTo}
+use Rattle.slack_rows.specs.declared.rows.Least.{Least}
+use Rattle.slack_rows.specs.declared.slack.Slacks.{Slacks}
+use Rattle.slack_rows.specs.declared.slack.Told.{Told as Found}
+use Rattle.slack_rows.specs.Slack.{Free, is_broken, is_less}
+use Rattle.slack_rows.specs.Limit.{Case, by_arrivals, least_told, told_in, worst}
+use Rattle.slack_rows.specs.Rows.{all_limits, limits_of, subjects}
+use Rattle.slack_rows.specs.Views.{Tells, slack_by, slack_for, told_by_found}
+
+-- ---- sets of cases
+
+-- The cases of a set, by their places: those of an earlier set and one more. At most so many sets
+-- are gone through.
+abbrev pub places_within : ℕ → List (ℕ × ℕ) → ℕ → List ℕ
+places_within zero sets number = []
+places_within (suc left) sets zero = []
+places_within (suc left) sets (suc number) =
+    places_within left sets (slice_index_or sets number (0, 0)).0
+    ++ (slice_index_or sets number (0, 0)).1 ∷ []
+
+abbrev pub places_of : List (ℕ × ℕ) → ℕ → List ℕ
+places_of sets number = places_within (length sets) sets number
+
+abbrev pub numbers_of : List ℕ → List ℕ → List ℕ
+numbers_of numbers places = map (λ place. slice_index_or numbers place 0) places
+
+-- each set adds a case to an earlier one, or to none
+abbrev pub AreSets : List (ℕ × ℕ) → Type 0
+AreSets sets = (k : ℕ) → (slice_index_or sets k (0, 0)).0 ≤ k
+
+-- The set of a number is that of another one with one case more: there is none more, or this one.
+pub record IsSetWith (old : List (ℕ × ℕ)) (set : ℕ × ℕ) (number : ℕ) (new : List (ℕ × ℕ)) :
+    Type 0 where
+  pub place : ℕ
+  pub next : number ≡ place + 1
+  pub below : place < length new
+  pub at : slice_index_or new place (0, 0) ≡ set
+  pub grows : (new ≡ old) ⊎ (new ≡ old ++ set ∷ [])
+
+-- ---- what goes by arrivals
+
+-- Arrivals decide what is told of a subject in none of these cases.
+abbrev pub is_sure : Circuit → List Case → Subject → Bool
+is_sure c cases subject =
+    not (list_any (λ (case : Case). by_arrivals c case.waves subject) cases)
+
+-- of no subject of the circuit
+abbrev pub are_sure : Circuit → List Case → Bool
+are_sure c cases = list_all (is_sure c cases) (subjects c)
+
+-- These are the slacks of the subject, if there is one, but where arrivals decide.
+abbrev pub SlacksKnown : Circuit → Waves → Option Subject → Slacks → Type 0
+SlacksKnown c ws None slacks = Unit {0}
+SlacksKnown c ws (Some subject) slacks =
+    by_arrivals c ws subject ≡ false →
+    All (λ word. Tells (period c.header) (slack_for slacks word) (told_in c ws subject word))
+    (limits_of c subject)
+
+-- ---- the least slacks
+
+-- the least slack of a limit over these cases, and all cases that have it
+pub record IsLeast (c : Circuit) (cases : List Case) (sets : List (ℕ × ℕ)) (q : Parameter)
+    (found : Least) : Type 0 where
+  pub told : least_told c cases q.subject q.word ≡ told_by_found (period c.header) found.told
+  pub have_it : numbers_of (map (λ (case : Case). case.number) cases) (places_of sets found.cases)
+      ≡ (worst c cases q.subject q.word).cases
+  pub first : (rest : List ℕ) × (places_of sets found.cases ≡ found.case ∷ rest)
+  pub within : AllByRecursion (λ place. place < length cases) (places_of sets found.cases)
+
+abbrev pub IsKnown : Circuit → List Case → List (ℕ × ℕ) → Parameter → Option Least → Type 0
+IsKnown c cases sets q None = (least_told c cases q.subject q.word).slack ≡ Free
+IsKnown c cases sets q (Some found) = IsLeast c cases sets q found
+
+-- it has a set of cases
+abbrev pub IsNumbered : List (ℕ × ℕ) → Option Least → Type 0
+IsNumbered sets None = Unit {0}
+IsNumbered sets (Some found) = found.cases ≤ length sets
+
+-- of each limit of the circuit, but where arrivals may decide
+pub record AreKnown (c : Circuit) (cases : List Case) (limits : List Parameter)
+    (least : List (Option Least)) (numbers : List ℕ) (sets : List (ℕ × ℕ)) : Type 0 where
+  pub are_limits : limits ≡ all_limits c
+  pub count : length least ≡ length limits
+  pub are_numbers : numbers ≡ map (λ (case : Case). case.number) cases
+  pub are_sets : AreSets sets
+  pub numbered : (i : ℕ) (found : Option Least) → slice_get least i ≡ Some found →
+      IsNumbered sets found
+  pub each : (i : ℕ) (q : Parameter) (found : Option Least) → slice_get limits i ≡ Some q →
+      slice_get least i ≡ Some found → is_sure c cases q.subject ≡ true → IsKnown c cases sets q found
+
+-- ---- one case more
+
+-- the first case of which it is the least
+pub record IsFirst (sets : List (ℕ × ℕ)) (told : Found) (case : ℕ) (new : List (ℕ × ℕ))
+    (found : Least) : Type 0 where
+  pub same_told : found.told ≡ told
+  pub same_case : found.case ≡ case
+  pub set : IsSetWith sets (0, case) found.cases new
+
+-- one case more that has the same
+pub record IsJoined (sets : List (ℕ × ℕ)) (least : Least) (case : ℕ) (new : List (ℕ × ℕ))
+    (found : Least) : Type 0 where
+  pub same_told : found.told ≡ least.told
+  pub same_case : found.case ≡ least.case
+  pub set : IsSetWith sets (least.cases, case) found.cases new
+
+pub record IsKept (sets : List (ℕ × ℕ)) (least : Option Least) (new : List (ℕ × ℕ))
+    (found : Option Least) : Type 0 where
+  pub same_sets : new ≡ sets
+  pub same : found ≡ least
+
+abbrev pub IfFound : (Least → Type 0) → Option Least → Type 0
+IfFound is None = ⊥
+IfFound is (Some found) = is found
+
+-- by whether the told one is less, and whether it is more
+abbrev pub IsLoweredBy : Bool → Bool → List (ℕ × ℕ) → Least → Found → ℕ → List (ℕ × ℕ) →
+    Option Least → Type 0
+IsLoweredBy true more sets least told case new found = IfFound (IsFirst sets told case new) found
+IsLoweredBy false true sets least told case new found = IsKept sets (Some least) new found
+IsLoweredBy false false sets least told case new found =
+    IfFound (IsJoined sets least case new) found
+
+-- the least with what is told in a case more
+abbrev pub IsLowered : List (ℕ × ℕ) → Option Least → Option Found → ℕ → List (ℕ × ℕ) →
+    Option Least → Type 0
+IsLowered sets least None case new found = IsKept sets least new found
+IsLowered sets None (Some told) case new found = IfFound (IsFirst sets told case new) found
+IsLowered sets (Some least) (Some told) case new found =
+    IsLoweredBy (is_less (slack_by told.slack) (slack_by least.told.slack))
+    (is_less (slack_by least.told.slack) (slack_by told.slack)) sets least told case new found
+
+-- ---- what is broken
+
+abbrev pub breaks : Option Least → Bool
+breaks None = false
+breaks (Some least) = is_broken (slack_by least.told.slack)
+
+-- the least so many places before one, if there is one
+abbrev pub least_at : List (Option Least) → ℕ → ℕ → Option Least
+least_at least place count =
+    if nat_le count place then slice_index_or least (place - count) None else None
+
+-- nothing can break a limit at a place, nor the mark or the assertion itself
+abbrev pub free_by : Limit → List (Option Least) → ℕ → Bool
+free_by Setup least place = is_none (least_at least place 0)
+free_by Hold least place = is_none (least_at least place 0)
+free_by High least place = is_none (least_at least place 0)
+free_by Low least place = is_none (least_at least place 0)
+free_by Gate least place = false
+free_by GateBefore least place =
+    is_none (least_at least place 0) && is_none (least_at least place 1)
+free_by GateAfter least place =
+    is_none (least_at least place 0) && is_none (least_at least place 2)
+free_by Assert least place = false
+free_by StableFrom least place =
+    is_none (least_at least place 0) && is_none (least_at least place 1)
+free_by StableTo least place =
+    is_none (least_at least place 0) && is_none (least_at least place 2)

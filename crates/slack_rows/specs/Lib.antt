@@ -1,0 +1,12 @@
+pub mod Window
+pub mod Slack
+pub mod Way
+pub mod Launched
+pub mod Watch
+pub mod Pulse
+pub mod Limit
+pub mod Rows
+pub mod Views
+pub mod Known
+pub mod Held
+pub mod Laws

@@ -1,0 +1,244 @@
+//! The paths that a slack comes from.
+
+ghost use Rattle.std.specs.Prelude.{◌≡◌, ℕ, ◌^◌, IfSome, OnOk, slice_get};
+ghost use Rattle.std.specs.List.{All};
+ghost use Rattle.fixpoint_engine.specs.Waves.{waves_of};
+ghost use Rattle.critical_paths.specs.Tick.{IsWithin};
+ghost use Rattle.critical_paths.specs.Told.{Knows};
+ghost use Rattle.critical_paths.specs.Views.{IsPin, Sees};
+ghost use Rattle.slack_rows.specs.Held.{GoesOn, IsHeld};
+
+use crate::limits::marked_pin;
+use crate::parameter::{Parameter, Subject};
+use crate::sides::Held;
+use crate::slack::{By, Told};
+use crate::watch::{held_beside, held_by};
+use critical_paths::{At, Corner, Event, Paths, PinEvent, Reading, View};
+use fixpoint_engine::wire_behind;
+use flat_circuit::Instance;
+use scald_base::{Delay, NoMemory};
+use step_values::Value;
+use wave_core::CyclicWave;
+
+/// More ticks than lie between the first period and any slack.
+const FAR: u64 = 0x1000_0000_0000;
+
+/// The paths of a slack: of the data and of the clock, or of the begin and the end of a pulse.
+#[derive(Clone, Copy)]
+pub struct Causes {
+    pub data: Option<At>,
+    pub clock: Option<At>,
+}
+
+impl Causes {
+    /// None.
+    const NONE: Causes = Causes {
+        data: None,
+        clock: None,
+    };
+}
+
+/// The bound of a delay.
+fn bound_of(corner: Corner, delay: &Delay) -> u16 {
+    delay.known();
+    corner.bound(*delay)
+}
+
+/// The paths of the begin and the end of a pulse at the first pin.
+fn pulse_paths<W: CyclicWave<Item = Value>>(
+    view: &View<W>,
+    paths: &mut Paths,
+    checker: &Instance,
+    told: Told,
+) -> Result<Causes, NoMemory>
+    requires sees { Sees view.now.circuit.now view.now.waves.now view.now.hazards.now }
+    requires knows { Knows view.now.circuit.now (waves_of view.now.waves.now) paths.old.nodes
+        paths.old.met.entries }
+    requires pins { All (IsPin view.now.circuit.now) checker.now.pins }
+    requires first { IsWithin (2 ^ 44) told.window.first }
+    requires last { IsWithin (2 ^ 44) told.window.last }
+    ensures { OnOk result (GoesOn view.now.circuit.now (waves_of view.now.waves.now)
+        paths.old.nodes paths.new.nodes paths.new.met.entries) }
+{
+    let Some(pin) = checker.pins.as_slice().get(0) else {
+        return Ok(Causes::NONE);
+    };
+    let begin = PinEvent {
+        pin: *pin,
+        direction: told.direction,
+        tick: told.window.first,
+        corner: Corner::Late,
+    };
+    let end = PinEvent {
+        pin: *pin,
+        direction: told.direction.turned(true),
+        tick: told.window.last,
+        corner: Corner::Early,
+    };
+    let data = view.end_path(paths, begin)?;
+    let clock = view.end_path(paths, end)?;
+    Ok(Causes { data, clock })
+}
+
+/// What an instance's limit is held against: the clock of a checker, or the mark.
+fn held_of(instance: &Instance, place: u16) -> Option<Held>
+    ensures pin { IfSome result (λ held. (k : ℕ) × (slice_get instance.now.pins k ≡ Some held.pin)) }
+    ensures clock { IfSome result (λ held. (k : ℕ) × (slice_get instance.now.pins k ≡ Some held.clock)) }
+{
+    let count = instance.pins.len();
+    let number = usize::from(place);
+    match (marked_pin(instance), instance.kind.check()) {
+        (Some(marked), _) if marked < count && number < count && count < 65_536 => {
+            Some(held_beside(instance, marked, number))
+        }
+        (None, Some(check)) if 2 <= count => Some(held_by(instance, check)),
+        _ => None,
+    }
+}
+
+/// The path of the data: the way that was told, or that of the change.
+fn data_path<W: CyclicWave<Item = Value>>(
+    view: &View<W>,
+    paths: &mut Paths,
+    held: Held,
+    corner: Corner,
+    told: Told,
+) -> Result<Option<At>, NoMemory>
+    requires sees { Sees view.now.circuit.now view.now.waves.now view.now.hazards.now }
+    requires knows { Knows view.now.circuit.now (waves_of view.now.waves.now) paths.old.nodes
+        paths.old.met.entries }
+    requires held { IsHeld view.now.circuit.now held }
+    requires tick { IsWithin (2 ^ 44) told.tick }
+    ensures { OnOk result (GoesOn view.now.circuit.now (waves_of view.now.waves.now)
+        paths.old.nodes paths.new.nodes paths.new.met.entries) }
+{
+    if let By::Way(node) = told.by {
+        let bounds = wire_behind(view.circuit, held.pin.target);
+        let wire = bound_of(corner, &bounds);
+        let tick = told.tick - i64::from(wire);
+        return Ok(Some(At { node, tick, wire }));
+    }
+    let change = PinEvent {
+        pin: held.pin,
+        direction: told.direction,
+        tick: told.tick,
+        corner,
+    };
+    let data = view.pin_path(paths, change)?;
+    Ok(data)
+}
+
+/// The paths of an instance's limit that is no width: of the data and of its clock or mark.
+fn held_paths<W: CyclicWave<Item = Value>>(
+    view: &View<W>,
+    paths: &mut Paths,
+    instance: &Instance,
+    corner: Corner,
+    told: Told,
+) -> Result<Causes, NoMemory>
+    requires sees { Sees view.now.circuit.now view.now.waves.now view.now.hazards.now }
+    requires knows { Knows view.now.circuit.now (waves_of view.now.waves.now) paths.old.nodes
+        paths.old.met.entries }
+    requires pins { All (IsPin view.now.circuit.now) instance.now.pins }
+    requires first { IsWithin (2 ^ 44) told.window.first }
+    requires last { IsWithin (2 ^ 44) told.window.last }
+    requires tick { IsWithin (2 ^ 44) told.tick }
+    ensures { OnOk result (GoesOn view.now.circuit.now (waves_of view.now.waves.now)
+        paths.old.nodes paths.new.nodes paths.new.met.entries) }
+{
+    let Some(held) = held_of(instance, told.pin) else {
+        return Ok(Causes::NONE);
+    };
+    let clock = view.pin_path(paths, held.edge(told.window, corner))?;
+    let data = data_path(view, paths, held, corner, told)?;
+    Ok(Causes { data, clock })
+}
+
+/// The path of a change of a net.
+fn net_paths<W: CyclicWave<Item = Value>>(
+    view: &View<W>,
+    paths: &mut Paths,
+    net: u32,
+    corner: Corner,
+    told: Told,
+) -> Result<Causes, NoMemory>
+    requires sees { Sees view.now.circuit.now view.now.waves.now view.now.hazards.now }
+    requires knows { Knows view.now.circuit.now (waves_of view.now.waves.now) paths.old.nodes
+        paths.old.met.entries }
+    ensures { OnOk result (GoesOn view.now.circuit.now (waves_of view.now.waves.now)
+        paths.old.nodes paths.new.nodes paths.new.met.entries) }
+{
+    let Some(_) = view.circuit.net(net) else {
+        return Ok(Causes::NONE);
+    };
+    let event = Event {
+        net,
+        direction: told.direction,
+        tick: told.tick,
+        corner,
+        reading: Reading::Folded,
+    };
+    let path = view.net_path(paths, event)?;
+    Ok(Causes {
+        data: Some(path),
+        clock: None,
+    })
+}
+
+/// The paths of a limit of the instance of a number.
+fn instance_paths<W: CyclicWave<Item = Value>>(
+    view: &View<W>,
+    paths: &mut Paths,
+    number: u32,
+    parameter: Parameter,
+    told: Told,
+) -> Result<Causes, NoMemory>
+    requires sees { Sees view.now.circuit.now view.now.waves.now view.now.hazards.now }
+    requires knows { Knows view.now.circuit.now (waves_of view.now.waves.now) paths.old.nodes
+        paths.old.met.entries }
+    requires first { IsWithin (2 ^ 44) told.window.first }
+    requires last { IsWithin (2 ^ 44) told.window.last }
+    requires tick { IsWithin (2 ^ 44) told.tick }
+    ensures { OnOk result (GoesOn view.now.circuit.now (waves_of view.now.waves.now)
+        paths.old.nodes paths.new.nodes paths.new.met.entries) }
+{
+    let Some(instance) = view.circuit.instance(number) else {
+        return Ok(Causes::NONE);
+    };
+    if parameter.word.is_width() {
+        return pulse_paths(view, paths, instance, told);
+    }
+    held_paths(view, paths, instance, parameter.word.corner(), told)
+}
+
+/// The paths of a slack; none where it has no number, or its number is not one of paths.
+pub fn causes_of<W: CyclicWave<Item = Value>>(
+    view: &View<W>,
+    paths: &mut Paths,
+    parameter: Parameter,
+    told: Told,
+) -> Result<Causes, NoMemory>
+    requires sees { Sees view.now.circuit.now view.now.waves.now view.now.hazards.now }
+    requires knows { Knows view.now.circuit.now (waves_of view.now.waves.now) paths.old.nodes
+        paths.old.met.entries }
+    ensures paths { OnOk result (GoesOn view.now.circuit.now (waves_of view.now.waves.now)
+        paths.old.nodes paths.new.nodes paths.new.met.entries) }
+{
+    if matches!(told.by, By::Nothing | By::Quiet | By::Repeated) {
+        return Ok(Causes::NONE);
+    }
+    // no slack lies so far from the first period
+    if told.tick.unsigned_abs() > FAR {
+        return Ok(Causes::NONE);
+    }
+    if told.window.first.unsigned_abs() > FAR {
+        return Ok(Causes::NONE);
+    }
+    if told.window.last.unsigned_abs() > FAR {
+        return Ok(Causes::NONE);
+    }
+    match parameter.subject {
+        Subject::Instance(number) => instance_paths(view, paths, number, parameter, told),
+        Subject::Net(net) => net_paths(view, paths, net, parameter.word.corner(), told),
+    }
+}

@@ -1,0 +1,48 @@
+//! By how much each limit of a circuit is met: the least slack of each setup, hold, width, mark and
+//! assertion over all cases, where it is least, and the paths that come to it.
+//!
+//! `specs/Window` says in which ticks data is not to change, and on which side of an edge a change
+//! in them counts; `specs/Slack` how many ticks that leaves; `specs/Watch` and `specs/Pulse` what
+//! each checker, mark and assertion watches; `specs/Limit` the slack of a limit over all cases,
+//! `specs/Rows` which limits there are and in which order they are told, and `specs/Laws` that a
+//! limit is broken exactly where there is a fault. `specs/Views` and `specs/Held` say what the
+//! program's own types mean in these words, `specs/Known` what [`Rows`] knows over some cases.
+//!
+//! The layer above makes [`Rows`] of a circuit and adds case after case.
+#![tactic(auto)]
+
+// numbers, and what they come from
+mod slack;
+mod window;
+
+// slacks about windows
+mod around;
+mod guard;
+mod quiet;
+mod sides;
+mod ways;
+
+// of each kind of limit
+mod watch;
+mod width;
+
+// of all limits, over all cases
+mod causes;
+mod limits;
+mod parameter;
+mod rows;
+mod subject;
+mod table;
+
+// what holds of the definitions
+mod laws;
+
+pub use laws::{
+    broken_where_touched, edges_break_with_faults, marks_break_with_faults, nets_break_with_faults,
+    widths_break_with_faults,
+};
+pub use limits::Parameters;
+pub use parameter::{Parameter, Subject, Word};
+pub use rows::{Least, Rows};
+pub use slack::{By, Rank, Reason, Slack, Told};
+pub use window::Window;

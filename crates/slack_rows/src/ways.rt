@@ -1,0 +1,240 @@
+//! Slacks where the data may change in every slot: by its ways from the edges of the clock.
+
+ghost use Rattle.std.specs.Prelude.{◌≡◌, ◌+◌, ◌<◌, ◌≤◌, ◌^◌, IfOk, None, OnOk, length};
+ghost use Rattle.std.specs.List.{All};
+ghost use Rattle.scald_base.specs.Time.{period as period_of};
+ghost use Rattle.fixpoint_engine.specs.Waves.{waves_of};
+ghost use Rattle.critical_paths.specs.Tick.{IsWithin, most_tick};
+ghost use Rattle.critical_paths.specs.Told.{Knows};
+ghost use Rattle.critical_paths.specs.Views.{Sees};
+ghost use Rattle.slack_rows.specs.Held.{GoesOn, IsHeld, IsInPeriod};
+
+use crate::guard::{Guard, Guards, moved_to};
+use crate::sides::{Held, Watch, at_pin, edge_of, find, told_at, window_of};
+use crate::slack::{Reason, Slack, Slacks, Told, lesser};
+use crate::window::Window;
+use critical_paths::{Arrival, Corner, Direction, Paths, View};
+use scald_base::NoMemory;
+use step_values::Value;
+use wave_core::CyclicWave;
+
+/// The least slack so far, and why there is none.
+#[derive(Clone, Copy)]
+struct Least {
+    best: Option<Told>,
+    reason: Reason,
+}
+
+/// Whether no other edge of the clock comes between a launch and this one.
+fn is_next(edges: &[Guard], period: u16, edge: Guard, launch: i64, corner: Corner) -> bool
+    requires some { 0 < period }
+    requires period { period ≤ 4096 }
+    requires launch { IsWithin (2 ^ 46) launch }
+{
+    let own = edge.after(period, launch, corner);
+    for other in edges {
+        let at = other.after(period, launch, corner);
+        if other.net == edge.net && corner.is_further(own, at) {
+            return false;
+        }
+    }
+    true
+}
+
+/// Adds the edge that a clock's path begins at, if it begins at one.
+fn add_edge(edges: &mut Guards, window: Window, found: Option<(u32, i64)>) -> Result<(), NoMemory>
+    requires from { IsWithin most_tick window.from }
+    requires to { IsWithin most_tick window.to }
+{
+    let Some((net, ideal)) = found else {
+        return Ok(());
+    };
+    // no edge of a path to a window is far
+    let Some(edge) = Guard::at(window, net, ideal) else {
+        return Ok(());
+    };
+    edges.push(edge)
+}
+
+/// The edges of windows whose clock's path begins at a clock: up to the begin of a window, or
+/// from its end.
+fn edges<W: CyclicWave<Item = Value>>(
+    view: &View<W>,
+    paths: &mut Paths,
+    watch: Watch,
+    held: Held,
+    corner: Corner,
+) -> Result<Guards, NoMemory>
+    requires sees { Sees view.now.circuit.now view.now.waves.now view.now.hazards.now }
+    requires knows { Knows view.now.circuit.now (waves_of view.now.waves.now) paths.old.nodes
+        paths.old.met.entries }
+    requires held { IsHeld view.now.circuit.now held }
+    requires edges { All (IsInPeriod (period_of view.now.circuit.now.header)) watch.edges.now }
+    requires limits { watch.limits.0 ≤ period_of view.now.circuit.now.header }
+    ensures { OnOk result (GoesOn view.now.circuit.now (waves_of view.now.waves.now)
+        paths.old.nodes paths.new.nodes paths.new.met.entries) }
+{
+    let mut found = Guards::new(view.alloc);
+    for edge in watch.edges {
+        let window = window_of(*edge, watch.limits, view.period());
+        let ideal = edge_of(view, paths, held, window, corner)?;
+        add_edge(&mut found, window, ideal)?;
+    }
+    Ok(found)
+}
+
+/// The slack of an arrival at the data's pin against the edge that its launch is for.
+fn way(period: u16, held: Held, edge: Guard, arrival: Arrival, corner: Corner) -> Told
+    requires some { 0 < period }
+    requires period { period ≤ 4096 }
+    requires ideal { IsWithin (2 ^ 46) arrival.ideal }
+    requires tick { IsWithin (2 ^ 46 + 65536) arrival.tick }
+{
+    let later = moved_to(period, edge.ideal, arrival.ideal, corner);
+    let tick = arrival.tick - later;
+    let ticks = told_at(corner, edge.window, tick);
+    held.told(Slack::Way(ticks), edge.window, Arrival { tick, ..arrival })
+}
+
+/// With the slack of an arrival against an edge, if that is the one that its launch is for.
+fn with_arrival<W: CyclicWave<Item = Value>>(
+    view: &View<W>,
+    held: Held,
+    edges: &[Guard],
+    edge: Guard,
+    arrival: Arrival,
+    corner: Corner,
+    best: Option<Told>,
+) -> Option<Told>
+    requires sees { Sees view.now.circuit.now view.now.waves.now view.now.hazards.now }
+    requires ideal { IsWithin (2 ^ 46) arrival.ideal }
+    requires tick { IsWithin (2 ^ 46) arrival.tick }
+{
+    let period = view.period();
+    let found = at_pin(view, held, arrival, corner);
+    if is_next(edges, period, edge, found.ideal, corner) {
+        lesser(best, Some(way(period, held, edge, found, corner)))
+    } else {
+        best
+    }
+}
+
+/// With the slacks of all arrivals from the edges of a clock against one edge.
+fn with_edge<W: CyclicWave<Item = Value>>(
+    view: &View<W>,
+    paths: &mut Paths,
+    held: Held,
+    edges: &[Guard],
+    edge: Guard,
+    corner: Corner,
+    so_far: Least,
+) -> Result<Least, NoMemory>
+    requires sees { Sees view.now.circuit.now view.now.waves.now view.now.hazards.now }
+    requires knows { Knows view.now.circuit.now (waves_of view.now.waves.now) paths.old.nodes
+        paths.old.met.entries }
+    ensures { OnOk result (GoesOn view.now.circuit.now (waves_of view.now.waves.now)
+        paths.old.nodes paths.new.nodes paths.new.met.entries) }
+{
+    let Some((from, to)) = find(view, paths, held, edge.net, corner)? else {
+        return Ok(Least {
+            reason: Reason::DataLoop,
+            ..so_far
+        });
+    };
+    let best = best_of(
+        view,
+        paths,
+        held,
+        edges,
+        edge,
+        (from, to),
+        corner,
+        so_far.best,
+    );
+    Ok(Least { best, ..so_far })
+}
+
+/// With the slacks of the arrivals of some numbers against an edge.
+fn best_of<W: CyclicWave<Item = Value>>(
+    view: &View<W>,
+    paths: &Paths,
+    held: Held,
+    edges: &[Guard],
+    edge: Guard,
+    numbers: (usize, usize),
+    corner: Corner,
+    so_far: Option<Told>,
+) -> Option<Told>
+    requires sees { Sees view.now.circuit.now view.now.waves.now view.now.hazards.now }
+    requires numbers { numbers.1 ≤ length paths.now.arrivals }
+{
+    let (from, to) = numbers;
+    let mut best = so_far;
+    for number in from..to {
+        let arrival = paths.arrival(number);
+        best = with_arrival(view, held, edges, edge, arrival, corner, best);
+    }
+    best
+}
+
+/// The least slack of one side of windows, over all launches and the edges that they are for; a
+/// reason where there is none.
+fn side<W: CyclicWave<Item = Value>>(
+    view: &View<W>,
+    paths: &mut Paths,
+    watch: Watch,
+    held: Held,
+    corner: Corner,
+) -> Result<Told, NoMemory>
+    requires sees { Sees view.now.circuit.now view.now.waves.now view.now.hazards.now }
+    requires knows { Knows view.now.circuit.now (waves_of view.now.waves.now) paths.old.nodes
+        paths.old.met.entries }
+    requires held { IsHeld view.now.circuit.now held }
+    requires edges { All (IsInPeriod (period_of view.now.circuit.now.header)) watch.edges.now }
+    requires limits { watch.limits.0 ≤ period_of view.now.circuit.now.header }
+    ensures { OnOk result (GoesOn view.now.circuit.now (waves_of view.now.waves.now)
+        paths.old.nodes paths.new.nodes paths.new.met.entries) }
+{
+    let edges = edges(view, paths, watch, held, corner)?;
+    let mut least = Least {
+        best: None,
+        reason: Reason::Data,
+    };
+    for edge in edges.as_slice() {
+        least = with_edge(view, paths, held, edges.as_slice(), *edge, corner, least)?;
+    }
+    Ok(match least.best {
+        Some(told) => told,
+        None => Told::none(least.reason, held.place, Direction::Change),
+    })
+}
+
+/// The least slacks before windows and after them of data that may change in every slot.
+pub fn by_ways<W: CyclicWave<Item = Value>>(
+    view: &View<W>,
+    paths: &mut Paths,
+    watch: Watch,
+    held: Held,
+) -> Result<Slacks, NoMemory>
+    requires sees { Sees view.now.circuit.now view.now.waves.now view.now.hazards.now }
+    requires knows { Knows view.now.circuit.now (waves_of view.now.waves.now) paths.old.nodes
+        paths.old.met.entries }
+    requires held { IsHeld view.now.circuit.now held }
+    requires edges { All (IsInPeriod (period_of view.now.circuit.now.header)) watch.edges.now }
+    requires limits { watch.limits.0 ≤ period_of view.now.circuit.now.header }
+    ensures paths { OnOk result (GoesOn view.now.circuit.now (waves_of view.now.waves.now)
+        paths.old.nodes paths.new.nodes paths.new.met.entries) }
+    ensures level { IfOk result (λ found. found.level ≡ None) }
+{
+    // about no edge nothing can break
+    if watch.edges.is_empty() {
+        return Ok(Slacks::NONE);
+    }
+    let before = side(view, paths, watch, held, Corner::Late)?;
+    let after = side(view, paths, watch, held, Corner::Early)?;
+    Ok(Slacks {
+        level: None,
+        before: Some(before),
+        after: Some(after),
+    })
+}
