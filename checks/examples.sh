@@ -11,8 +11,8 @@ begin "${1-}"
 # The status that goes with the last line of a report.
 status_of() {
     case $(tail -n 1 "$1") in
-    CLEAN | MARGINS*) echo 0 ;;
-    FAULTS* | NOTES*) echo 1 ;;
+    CLEAN | MARGINS* | MET*) echo 0 ;;
+    FAULTS* | NOTES* | BROKEN*) echo 1 ;;
     REFUSED*) echo 2 ;;
     UNSETTLED*) echo 3 ;;
     *) echo none ;;
@@ -128,7 +128,7 @@ awk -v folder="$work" '
 grep -v '^--' "$top/examples/first.scald" | cmp -s - "$work/shown1" || failure 'README.md: another drawing than first.scald'
 sed 's/"D .S1-4"/"D .S2-4"/' "$work/shown1" >"$work/text"
 "$program" verify <"$work/text" | tail -n 2 | cmp -s - "$work/shown3" || failure 'README.md: another fault'
-"$program" explain <"$work/text" | sed -n '/^SETUP/,/^$/p' | sed '/^$/,$d' | cmp -s - "$work/shown4" ||
+"$program" explain <"$work/text" | sed -n '/^1[.] /,/^$/p' | sed '/^$/,$d' | cmp -s - "$work/shown4" ||
     failure 'README.md: another explanation'
 
 for report in "$top"/examples/*.report "$top"/examples/*.notes "$top"/examples/*.margins "$top"/examples/*.chains "$top"/examples/*.explained \

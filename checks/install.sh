@@ -160,7 +160,7 @@ offers() {
 LC_ALL=C
 export LC_ALL
 if ! passed_over bash; then
-    offers '--help;--quiet;--unproved;--version;-h;bench;chains;explain;format;install;judge;margins;notes;run;sections;upgrade;verify' scald ''
+    offers '--help;--quiet;--unproved;--version;-h;bench;chains;explain;format;install;judge;margins;notes;run;sections;slack;upgrade;verify' scald ''
     offers 'verify' scald v
     offers '--unproved' scald --u
     offers 'format' scald --quiet f
@@ -183,7 +183,7 @@ if ! passed_over zsh; then
     warned 'zsh warns'
     # a line that is typed, and what is offered after it
     cat >"$work/rows" <<'END'
-scald |bench;chains;explain;format;install;judge;margins;notes;run;sections;upgrade;verify
+scald |bench;chains;explain;format;install;judge;margins;notes;run;sections;slack;upgrade;verify
 scald v|verify
 scald --u|--unproved
 scald --quiet f|format

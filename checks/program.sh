@@ -170,9 +170,10 @@ forms='usage:
     scald notes <DRAWING                               what the drawing does not say
     scald format <DRAWING                              the drawing in its canonical form
     scald upgrade <DRAWING                             the drawing in version 2 of the language
+    scald slack [worst=N] [rounds=N] <DRAWING          by how many ticks each limit is met or missed, the worst first
+    scald explain [worst=N] [rounds=N] <DRAWING        the changes that come to the worst of them, and their sums
     scald margins <DRAWING                             by how much more each checker may ask for
     scald chains <DRAWING                              where each fault comes from
-    scald explain <DRAWING                             why there are faults, by how much, and where that stands in the drawing
     scald sections <DRAWINGS                           verify of drawings with a line ===== between them, each by itself and joined
     scald run T SEED [case=K] <DRAWING                 a run of T ticks that a seed draws, 1 to 4096, as a trace
     scald judge F <TRACE-AND-DRAWING                   whether the trace is a run, and what breaks in it from tick F on
@@ -213,9 +214,10 @@ none "'rounds=0' cannot come after 'faults': N is 1 to 10000000, without zeros i
 none "'faults' cannot come after 'waves': it stands once, after verify; rounds=N comes last" verify waves faults
 # words of other forms, and files
 none "unknown command 'waves': it stands once, after verify; rounds=N comes last" waves
-none "unknown command 'rounds=5': it stands once, after verify; rounds=N comes last" rounds=5 verify
+none "unknown command 'rounds=5': it stands once, and last, after verify, slack or explain" rounds=5 verify
+none "unknown command 'worst=5': it stands once, after slack or explain; rounds=N comes last" worst=5
 none "unknown command 'case=2': it stands after run T SEED" case=2
-none "'rounds=5' cannot come after 'explain': it stands once, after verify; rounds=N comes last" explain rounds=5
+none "'rounds=5' cannot come after 'chains': it stands once, and last, after verify, slack or explain" chains rounds=5
 none "'faults' cannot come after '0': it stands once, after verify; rounds=N comes last" run 6 0 faults
 none "'case=2' cannot come after 'verify': it stands after run T SEED" verify case=2
 none "'case=2' cannot come after 'waves': it stands after run T SEED" verify waves case=2
@@ -265,6 +267,13 @@ none "'faults' cannot come after 'chains': it stands once, after verify; rounds=
 none "'' cannot come after 'chains'" chains ''
 none "unknown command 'chain': is chains meant?" chain
 none "'explain' cannot come after 'explain'" explain explain
+none "'worst=0' cannot come after 'explain': N is 1 to 65536, without zeros in front" explain worst=0
+none "'worst=65537' cannot come after 'slack': N is 1 to 65536, without zeros in front" slack worst=65537
+none "'worst=01' cannot come after 'slack': N is 1 to 65536, without zeros in front" slack worst=01
+none "'rounds=0' cannot come after 'worst=2': N is 1 to 10000000, without zeros in front" slack worst=2 rounds=0
+none "'worst=2' cannot come after 'rounds=5': it stands once, after slack or explain; rounds=N comes last" explain rounds=5 worst=2
+none "'more' cannot come after 'rounds=5'" slack worst=2 rounds=5 more
+none "'5' cannot come after 'slack'" slack 5
 none "'faults' cannot come after 'explain': it stands once, after verify; rounds=N comes last" explain faults
 none "'' cannot come after 'explain'" explain ''
 none "unknown command 'explian': is explain meant?" explian
@@ -294,8 +303,8 @@ for number in '' 00 -1 4097 65536; do
 done
 # three words at most, and two for bench
 none "'faults' cannot come after 'rounds=5': it stands once, after verify; rounds=N comes last" verify waves rounds=5 faults
-none "'rounds=5' cannot come after 'rounds=5': it stands once, after verify; rounds=N comes last" verify waves rounds=5 rounds=5
-none "'rounds=6' cannot come after 'rounds=5': it stands once, after verify; rounds=N comes last" verify rounds=5 rounds=6
+none "'rounds=5' cannot come after 'rounds=5': it stands once, and last, after verify, slack or explain" verify waves rounds=5 rounds=5
+none "'rounds=6' cannot come after 'rounds=5': it stands once, and last, after verify, slack or explain" verify rounds=5 rounds=6
 none "'' cannot come after 'rounds=5'" verify waves rounds=5 ''
 none "'3' cannot come after '3'" bench 3 3
 # numbers without a sign or zeros in front, within their bounds and not cut

@@ -1,6 +1,6 @@
 #!/bin/sh
 # What the built program reports on small drawings of each kind, worked out by hand: gates, storage, loops, clocks,
-# checkers, macros and cases, with the status of each; and the margins, the chains and the explanations of some.
+# checkers, macros and cases, with the status of each; and the margins, the chains and the slacks of some.
 # Usage: checks/reports.sh [PROGRAM]. Where none is named and none is built it says so and ends with 0.
 . "$(dirname -- "$0")/common.sh"
 begin "${1-}"
@@ -389,55 +389,47 @@ whole 'pulses, each by its own worst case' margins 0 \
     'DRAWING ROW;' 'm1 : MUX2 [0:0] ("G", "CK .P2-3", "CK2 .P2-4") -> ("X");' 'w1 : MIN_PULSE_CHK {HIGH=20, LOW=20} ("X");' 'END;' 'CASE "G"=0;' 'CASE "G"=1;' \
     -- 'SCALD 1 PERIOD 400' 'MARGIN w1<0> HIGH 30 NEXT CASE 1 WIDTH HIGH FROM 100 WIDTH 50' 'MARGIN w1<0> LOW 280 NEXT CASE 2 WIDTH LOW FROM 200 WIDTH 300' 'MARGINS 2'
 
-# --- explanations
-early='  it is early and not late: it began with this edge of the clock, so this is a hold miss of that edge, and the data has to be slower or the clock earlier'
-whole 'a race at a checker of a high clock' explain 1 \
+# --- slacks
+whole 'a race at a checker of a high clock' slack 1 \
     'r1 : REG [2:6] ("CK .P2-3", "D .S1-4") -> ("Q");' 'b1 : BUF [2:3] ("CK") -> ("CK2");' \
     'c1 : SETUP_RISE_HOLD_FALL_CHK {SETUP=20, HOLD=4} ("CK2", "Q");' \
-    -- 'SCALD 1 PERIOD 400' 'CASE 0' '' 'SETUP 20 of c1<0> (line 6): the whole of it does not suffice' \
-    '  Q<0> is not stable from tick 102 to tick 106, and CK2<0> may rise at tick 102' \
-    '  with SETUP 0 there is still a fault while the clock is high: Q<0> may change at tick 103, CK2<0> may rise at tick 102 and may stay high until then' \
-    "$early" '  the change:' \
-    '    tick 100: CK<0> may rise: "CK .P2-3" (line 4)' '    tick 102: Q<0> may change: r1<0> : REG [2:6] (line 4) takes 2' \
-    '  the clock:' '    tick 100: CK<0> may rise: "CK .P2-3" (line 4)' \
-    '    tick 102: CK2<0> may rise: b1<0> : BUF [2:3] (line 5) takes 2' \
-    '' 'kind | checker | short by | from | cases' 'SETUP | c1<0> | over 20 | CK<0> | 0' 'FAULTS 1'
+    -- 'SLACK PERIOD 400' 'slack  limit     of     line' '  -56  HOLD 4    c1<0>     6' '  376  SETUP 20  c1<0>     6' '' 'BROKEN 1'
+row 'a race, told as early and by its sum' explain 1 \
+    'r1 : REG [2:6] ("CK .P2-3", "D .S1-4") -> ("Q");' 'b1 : BUF [2:3] ("CK") -> ("CK2");' \
+    'c1 : SETUP_RISE_HOLD_FALL_CHK {SETUP=20, HOLD=4} ("CK2", "Q");' \
+    -- '   data, first change:' '         102     +2  Q changes  r1 REG [2:6] line 4' '   clock, latest:' \
+    '         153     +3  CK2 falls   b1 BUF [2:3] line 5' \
+    '   may change from 153 + 4 + 1 = 158, changes at 102: 56 too early'
 row 'a row of registers whose clock is passed on through late wires' explain 1 \
     'WIRE 0:1;' 'DRAWING ROW;' 'r1 : REG [2:6] ("CK .P2-3", "D .S1-4") -> ("Q1");' 'b1 : BUF [2:3] ("CK") -> ("CK2");' \
     'r2 : REG [2:6] ("CK2", "Q1") -> ("Q2");' 'b2 : BUF [2:3] ("CK2") -> ("CK3");' \
     'c2 : SETUP_HOLD_CHK {SETUP=20, HOLD=4} ("CK3", "Q2");' 'END;' \
-    -- 'SETUP 20 of c2<0> (line 9): the whole of it does not suffice' \
-    '  Q2<0> is not stable from tick 104 to tick 112, and CK3<0> may rise at tick 104' \
-    '  with SETUP 0 there is still a hold fault: Q2<0> may change at tick 105, and CK3<0> may rise at tick 104' "$early" '  the change:' \
-    '    tick 100: CK<0> may rise: "CK .P2-3" (line 5)' \
-    '    tick 102: CK2<0> may rise: b1<0> : BUF [2:3] (line 6) takes 2, its wire 0 of 0:1' \
-    '    tick 104: Q2<0> may change: r2<0> : REG [2:6] (line 7) takes 2, its wire 0 of 0:1' \
-    '    tick 104: at the pin, its wire 0 of 0:1' 'SETUP | c2<0> | over 20 | CK<0> | 0'
-row 'what is unknown, explained by its loop from the net that is named first, and by its ticks once round' explain 1 \
+    -- '1. HOLD 4 of c2<0> (line 9), slack -10' '   data, first change:' '         100         CK rises    "CK .P2-3" line 5' \
+    '         102     +2  CK2 rises   b1 BUF [2:3] line 6' '         104     +2  Q2 changes  r2 REG [2:6] line 7' \
+    '   clock, latest:' '         100         CK rises    "CK .P2-3" line 5' '         104     +4  CK2 rises   b1 BUF [2:3] line 6, wire 1' \
+    '         108     +4  CK3 rises   b2 BUF [2:3] line 8, wire 1' '         109     +1  at the pin, by its wire' \
+    '   may change from 109 + 4 + 1 = 114, changes at 104: 10 too early' '   launched by the edge of the check' \
+    '   counted twice: 2 ticks (b1 1, the wire to pin 0 of b1 1); this path alone cannot be below slack -8' 'BROKEN 1'
+row 'a pulse of what is unknown' explain 1 \
     'b1 : BUF [1:2] ("B") -> ("A");' 'b2 : BUF [1:3] ("A") -> ("B");' 'WIRE "B" 0:4;' 'w1 : MIN_PULSE_CHK {HIGH=2} ("A");' \
-    -- '  its begin, unknown by the loop of B<0>, A<0>:' '    once round the loop it takes up to 9 ticks, and a period has 400' 'FAULTS 1'
-row 'a pulse behind a hazard' explain 1 \
-    'g1 : AND [2:3] ("CK .P2-3" !H, "EN .S3-8") -> ("GCK");' 'w1 : MIN_PULSE_CHK {HIGH=2} ("GCK");' \
-    -- 'HAZARD of g1<0> (line 4)' '  its begin comes through g1<0> : AND [2:3] (line 4), which has a HAZARD of its own: mend that first' 'FAULTS 2'
+    -- '1. HIGH 2 of w1<0> (line 7), slack -1' \
+    '   1 wide, 1 - 2 = -1: it may change more than once: look at what drives it first' 'BROKEN 1'
 
-# 10240 faults of one cause are one paragraph, within 10 seconds and 64 MB of address space
-trying '10240 faults of one cause'
-checkers=$(awk 'BEGIN { for (i = 1; i <= 40; i++) printf "%sc#%d<0:255>", (i > 1 ? ", " : ""), i }')
+# 10240 broken limits of one statement are one row, within 10 seconds and 64 MB of address space
+trying '10240 broken limits of one statement'
 {
-    printf 'SCALD 2 PERIOD 400\nCASE 0\n\nSETUP 20 of %s (line 6): short by 10\n' "$checkers"
-    printf '%s\n' '  what follows is of c#1<0>, the first of 10240' \
-        '  D<0> is stable for 10 ticks up to tick 100, where CK<0> may rise' '  the change:' \
-        '    tick 50: IN<0> may change: "IN .S1-4" (line 4)' \
-        '    tick 90: D<0> may change: b<0> : BUF [10:40] (line 4) takes 40' '  the clock:' \
-        '    tick 100: CK<0> may rise: "CK .P2-3" (line 6)' '' 'kind | checker | short by | from | cases'
-    printf 'SETUP | %s | 10 | IN<0> | 0\nFAULTS 10240\n' "$checkers"
+    printf '%s\n' 'SLACK PERIOD 400' '' '1. SETUP 20 of c#1<0:255> and 39 more (line 6), slack -10, path of c#1<0>' \
+        '   data, last change:' '          50         IN<0> changes "IN .S1-4" line 4' \
+        '          90    +40  D<0> changes  b<0> BUF [10:40] line 4' '   clock, earliest:' \
+        '         100         CK rises   "CK .P2-3" line 6' \
+        '   may change until 100 - 20 = 80, changes at 90: 10 too late' '' 'BROKEN 10240'
 } >"$work/want"
 printf '%s\n' 'SCALD 2;' 'CLOCK 8 x 50;' 'DRAWING ROW;' 'b : BUF [10:40] ("IN .S1-4"<0:255>) -> ("D"<0:255>);' \
     'FOR I = 1 TO 40 DO' 'c : SETUP_HOLD_CHK {SETUP=20, HOLD=5} ("CK .P2-3", "D"<0:255>);' 'END;' 'END;' >"$work/text"
 # shellcheck disable=SC3045
 (ulimit -v 65536 && exec timeout 10 "$program" explain <"$work/text" >"$work/out" 2>"$work/said")
 status=$?
-[ "$status" -eq 1 ] || failure "10240 faults of one cause: status $status in place of 1"
-cmp -s "$work/out" "$work/want" || failure '10240 faults of one cause: other explanations'
+[ "$status" -eq 1 ] || failure "10240 broken limits of one statement: status $status in place of 1"
+cmp -s "$work/out" "$work/want" || failure '10240 broken limits of one statement: other paragraphs'
 
 ended

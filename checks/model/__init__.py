@@ -1,5 +1,5 @@
-"""A model of `scald verify`, `notes`, `margins`, `chains`, `explain` and `sections`: a second account of what a drawing
-means, and several together.
+"""A model of `scald verify`, `notes`, `margins`, `chains`, `slack`, `explain` and `sections`: a second account of what a
+drawing means, and several together.
 
 It is written from docs/LANGUAGE.md and docs/MEANING.md, in other words than the definitions in crates/*/specs and
 with none of the program's methods: it goes slot by slot and tick by tick, evaluates every net in every round, and
@@ -15,14 +15,16 @@ In the order in which a drawing flows through them:
     expansion   its circuit, or a refusal      faults    what checkers, marks and assertions find in waves
     circuit     nets, pins and instances       margins   how much more checkers may ask for
     rules       a circuit's own rules, cases   chains    where faults come from
-                                               explain   why, and by how much, for a person
+                                               slack     by how much each limit is met, and the changes that come to it
+                                               spots     where the names of nets stand in a drawing
                                                report    the answers: their lines and statuses
                                                notes     what a drawing does not say
                                                sections  several drawings, each by itself, and joined
 
 It is tried on random_drawings, with patterns that chance would seldom draw; mending and spoiling make most of them good,
-and some bad in a chosen way; and on the lists of drawings of random_sections. __main__ tries them; laws tries what must
-hold of every margin, chain and explanation in the model alone.
+and some bad in a chosen way; on path_drawings, whose limits have paths of several elements; and on the lists of drawings
+of random_sections. __main__ tries them; laws tries what must
+hold of every margin, chain and slack in the model alone.
 
 The model begins with the tree and has no reader: texts that the grammar refuses, and limits on how much there may be
 (TooMany and most of TooDeep), are not in it.

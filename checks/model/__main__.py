@@ -4,7 +4,7 @@ Usage: python3 -B -m model PROGRAM COUNT [FIRST [sections]], with checks/ as PYT
 are lists of sections. One line is printed for each text: its number and Clean, Faulty, Unsettled, `Refused KIND`, BadCount
 or `BadSection RULE`; or, where bytes or status differ, FAILED and the names of the files that its text and both answers
 are kept in, in the folder KEPT or else in the temporary one. It stops where many have failed. Of each drawing the report,
-the notes, the margins, the chains and the explanations are compared.
+the notes, the margins, the chains, and the slacks as a table and as paragraphs are compared.
 """
 import multiprocessing
 import os
@@ -15,9 +15,10 @@ from random import Random
 
 from .mending import mend
 from .notes import notes
+from .path_drawings import make_path_drawing
 from .random_drawings import make_drawing
 from .random_sections import make_sections
-from .report import Answer, Mode, chains, explanations, margins, verify
+from .report import Answer, Mode, chains, margins, slacks, verify
 from .sections import joined_text, verify_sections
 from .spoiling import spoil
 from .writing import write_drawing
@@ -28,6 +29,8 @@ MOST_WRONG = 20
 
 
 def drawing_of(random, number):
+    if number % 4 == 0:
+        return make_path_drawing(random)
     drawing = make_drawing(random, is_large=number % 5 == 0)
     mend(drawing, random)
     if random.random() < SHARE_SPOILT:
@@ -68,8 +71,13 @@ def ask_drawing(number):
     mode = random.choice([Mode.WHOLE] * 4 + [Mode.WAVES, Mode.FAULTS])
     rounds = random.choice([None] * 6 + [1, 2, 3, 7, 20])
     asked = [(words_of(mode, rounds), verify(drawing, mode, rounds))]
-    told = {"notes": notes, "margins": margins, "chains": chains, "explain": explanations}
-    return text, [*asked, *(([word], answer(drawing)) for word, answer in told.items())]
+    told = {"notes": notes, "margins": margins, "chains": chains}
+    asked += (([word], answer(drawing)) for word, answer in told.items())
+    for word in ("slack", "explain"):
+        worst = random.choice([None, None, 1, 3, 20])
+        words = [word, *([f"worst={worst}"] if worst else []), *([f"rounds={rounds}"] if rounds else [])]
+        asked.append((words, slacks(drawing, word, worst, rounds)))
+    return text, asked
 
 
 def ask_sections(number):

@@ -1,7 +1,7 @@
-"""What must hold of every margin and of every chain, tried in the model alone over random drawings.
+"""What must hold of every margin, of every slack and of every chain, tried in the model alone over random drawings.
 
 Usage: python3 -B -m model.laws COUNT [FIRST], with checks/ as PYTHONPATH. It says how many drawings settled, how many
-margins and chains they have, by their ends, and which drawings break a law.
+margins, slacks and chains they have, by their ends, and which drawings break a law.
 """
 import sys
 from collections import Counter
@@ -14,6 +14,7 @@ from .faults import faults
 from .margins import fits, greatest_value, margin_of
 from .report import circuit_of
 from .rounds import Unsettled, default_limit, settle_all
+from .slack import is_broken, lower
 from .values import is_quiet
 from .writing import write_drawing
 
@@ -40,8 +41,35 @@ def laws_of_chain(circuit, fault, links, end):
         yield f"too many links of {fault}"
 
 
+def is_as_margin(margin, least):
+    """A slack is the margin where one more is a fault; a fault has one that is broken; and a margin up to the limit has
+    no slack, or no smaller one."""
+    if margin == "FAULT":
+        return True
+    if least is None or is_broken(least):
+        return least is None and "LIMIT" in margin
+    more = int(margin.split()[0])
+    return least.number == more if "NEXT" in margin else least.number >= more
+
+
+def laws_of_slacks(circuit, settled, seen):
+    """Slacks are as the margins, and a bit or a net has a broken one exactly where it has a fault."""
+    with_fault = {str(fault.element) for case in settled.cases for fault in faults(circuit, case.waves)}
+    for subject, limits in lower(circuit, settled.cases):
+        leasts = [limit.least for limit in limits]
+        seen["slack"] += sum(least is not None for least in leasts)
+        if any(least is not None and is_broken(least) for least in leasts) != (str(subject) in with_fault):
+            yield f"a broken slack and no fault, or a fault and no broken slack, of {subject}"
+        for limit in limits:
+            if limit.word in ("SETUP", "HOLD", "HIGH", "LOW"):
+                margin = margin_of(circuit, settled.cases, subject, limit.word)
+                if not is_as_margin(margin, limit.least):
+                    yield f"slack of {limit.word} of {subject}, which has margin {margin}"
+
+
 def laws(circuit, settled, seen):
     """The laws that a circuit breaks, and in `seen` what was tried."""
+    yield from laws_of_slacks(circuit, settled, seen)
     for checker in circuit.checkers:
         for parameter in CHECKERS[checker.kind].parameters:
             margin = margin_of(circuit, settled.cases, checker, parameter)

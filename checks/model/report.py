@@ -1,4 +1,4 @@
-"""The answers of `verify`, `margins`, `chains` and `explain` (docs/LANGUAGE.md, "The report" and "Words and statuses")."""
+"""The answers of `verify`, `margins`, `chains`, `slack` and `explain` (docs/LANGUAGE.md, "The report" and "Words and statuses")."""
 from enum import Enum
 from itertools import groupby
 from typing import NamedTuple
@@ -6,12 +6,13 @@ from typing import NamedTuple
 from .chains import chain_lines
 from .drawing import Refused
 from .expansion import expand
-from .explain import explanation_lines
 from .faults import faults
 from .margins import margin_lines
 from .names import check_before_expansion
 from .rounds import Unsettled, default_limit, printed_tick, settle_all
 from .rules import keep_rules
+from .slack import slack_lines
+from .spots import spots_in
 
 
 class Mode(Enum):
@@ -117,5 +118,10 @@ def chains(drawing):
     return answer(drawing, None, lambda circuit, settled: chain_lines(circuit, drawing.version, settled))
 
 
-def explanations(drawing):
-    return answer(drawing, None, lambda circuit, settled: explanation_lines(circuit, drawing, settled))
+def slacks(drawing, wanted, worst=None, rounds=None):
+    """The answer of `slack` or of `explain`."""
+    return answer(
+        drawing,
+        rounds,
+        lambda circuit, settled: slack_lines(drawing, circuit, settled, spots_in(drawing, circuit), wanted, worst),
+    )

@@ -8,9 +8,9 @@ use scald_base::{Bytes, Words};
 use std::alloc::Global;
 
 /// The words that a form begins with.
-const COMMANDS: [&[u8]; 11] = [
-    b"verify", b"notes", b"format", b"upgrade", b"margins", b"chains", b"explain", SECTIONS,
-    b"run", b"judge", b"bench",
+const COMMANDS: [&[u8]; 12] = [
+    b"verify", b"notes", b"format", b"upgrade", b"slack", b"explain", b"margins", b"chains",
+    SECTIONS, b"run", b"judge", b"bench",
 ];
 
 const SECTIONS: &[u8] = b"sections";
@@ -28,18 +28,24 @@ enum Next {
 
 const ROUNDS: Bounds = Bounds(b"N", 1, 10_000_000);
 
+const ROWS: Bounds = Bounds(b"N", 1, 65_536);
+
 const CASES: Bounds = Bounds(b"K", 1, 256);
 
 const SEEDS: Bounds = Bounds(b"SEED", 0, u64::MAX);
 
 /// What a form goes on with, by its command and how many words stand after that.
-const FORMS: [(&[u8], usize, Next); 7] = [
+const FORMS: [(&[u8], usize, Next); 11] = [
     (
         b"verify",
         0,
         Next::Word(&[b"waves", b"faults", b"rounds=N"]),
     ),
     (b"verify", 1, Next::Word(&[b"rounds=N"])),
+    (b"slack", 0, Next::Word(&[b"worst=N", b"rounds=N"])),
+    (b"slack", 1, Next::Word(&[b"rounds=N"])),
+    (b"explain", 0, Next::Word(&[b"worst=N", b"rounds=N"])),
+    (b"explain", 1, Next::Word(&[b"rounds=N"])),
     (b"run", 0, Next::Number(Bounds(b"T", 1, 4096))),
     (b"run", 1, Next::Number(SEEDS)),
     (b"run", 2, Next::Word(&[b"case=K"])),
@@ -78,8 +84,12 @@ fn key_of(word: &[u8]) -> &[u8] {
 
 /// Where a word stands that has no place here.
 fn add_elsewhere(out: &mut Lines, word: &[u8]) {
-    if word.starts_with(b"rounds=") || word == b"waves".as_slice() || word == b"faults".as_slice() {
+    if word.starts_with(b"rounds=") {
+        out.put(b": it stands once, and last, after verify, slack or explain");
+    } else if word == b"waves".as_slice() || word == b"faults".as_slice() {
         out.put(b": it stands once, after verify; rounds=N comes last");
+    } else if word.starts_with(b"worst=") {
+        out.put(b": it stands once, after slack or explain; rounds=N comes last");
     } else if word.starts_with(b"case=") {
         out.put(b": it stands after run T SEED");
     } else if word.contains(&b'.') || word.contains(&b'/') {
@@ -102,6 +112,8 @@ fn add_meant(out: &mut Lines, words: &[&'static [u8]], word: &[u8]) {
         if is_near(key_of(word), key_of(meant)) && word != *meant {
             if word.starts_with(b"rounds=") {
                 add_bounds(out, ROUNDS);
+            } else if word.starts_with(b"worst=") {
+                add_bounds(out, ROWS);
             } else if word.starts_with(b"case=") {
                 add_bounds(out, CASES);
             } else {

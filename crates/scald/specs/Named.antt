@@ -9,7 +9,7 @@ use Rattle.scald_tool.specs.Kept.{IsPromised}
 use Rattle.drawing_notes.specs.Answer.{notes_program}
 use Rattle.margin_report.specs.Answer.{margins}
 use Rattle.fault_chain.specs.Answer.{chains}
-use Rattle.fault_report.specs.Answer.{explainer}
+use Rattle.slack_report.specs.Answer.{slack_program}
 use Rattle.section_compose.specs.Answer.{composer}
 use Rattle.section_compose.specs.Promise.{IsPromised as IsPromisedJoined}
 use Rattle.section_compose.specs.declared.outcome.SectionsOutcome.{SectionsOutcome}
@@ -20,7 +20,7 @@ use Rattle.trace_tool.specs.Outcome.{status_of as trace_status}
 use Rattle.scald.specs.declared.named.Answer.{Answer}
 use Rattle.scald.specs.declared.named.Answer.TheVariants as answer
 use Rattle.scald.specs.declared.named.Call.{Call}
-use Rattle.scald.specs.declared.named.Call.TheVariants.{Tool, Notes, Margins, Chains, Explanations, Sections, Simulator}
+use Rattle.scald.specs.declared.named.Call.TheVariants.{Tool, Notes, Margins, Chains, Slacks, Sections, Simulator}
 
 -- that of the verifier if it names no other, or there is none
 abbrev pub call_of : List (List ℕ) → Call
@@ -29,11 +29,12 @@ call_of (first ∷ others) =
     if bytes_eq first (codes "notes") then Notes
     else (if bytes_eq first (codes "margins") then Margins
     else (if bytes_eq first (codes "chains") then Chains
-    else (if bytes_eq first (codes "explain") then Explanations
+    else (if bytes_eq first (codes "slack") then Slacks
+    else (if bytes_eq first (codes "explain") then Slacks
     else (if bytes_eq first (codes "sections") then Sections
     else (if bytes_eq first (codes "run") then Simulator
     else (if bytes_eq first (codes "judge") then Simulator
-    else Tool))))))
+    else Tool)))))))
 
 -- ---- the answer
 
@@ -63,8 +64,8 @@ IsAnswerOf Margins words a d s s' k k' =
     of_drawing (λ o. IsCall margins nothing_more words o d s s' k k') a
 IsAnswerOf Chains words a d s s' k k' =
     of_drawing (λ o. IsCall chains nothing_more words o d s s' k k') a
-IsAnswerOf Explanations words a d s s' k k' =
-    of_drawing (λ o. IsCall explainer nothing_more words o d s s' k k') a
+IsAnswerOf Slacks words a d s s' k k' =
+    of_drawing (λ o. IsCall slack_program nothing_more words o d s s' k k') a
 IsAnswerOf Sections words a d s s' k k' =
     of_sections (λ o. IsCall composer IsPromisedJoined words o d s s' k k') a
 IsAnswerOf Simulator words a d s s' k k' =

@@ -9,11 +9,11 @@ ghost use Rattle.timing_analysis.specs.Promise.{FaultlessNeverBreaks, NeverBreak
 
 use drawing_notes::notes_main;
 use fault_chain::chain_main;
-use fault_report::explain_main;
 use margin_report::margin_main;
 use scald_base::{Outcome, Sink, Source, Words};
 use scald_tool::{status, tool_main};
 use section_compose::{SectionsOutcome, sections_main, sections_status};
+use slack_report::slack_main;
 use std::alloc::Global;
 use trace_tool::{TraceOutcome, trace_main, trace_status};
 
@@ -28,8 +28,8 @@ pub enum Call {
     Margins,
     /// That of the chains.
     Chains,
-    /// That of the explanations.
-    Explanations,
+    /// That of the slacks.
+    Slacks,
     /// That of sections.
     Sections,
     /// That of the simulator.
@@ -71,8 +71,10 @@ fn call_of(words: &Words) -> Call
         Call::Margins
     } else if first.as_slice() == b"chains".as_slice() {
         Call::Chains
+    } else if first.as_slice() == b"slack".as_slice() {
+        Call::Slacks
     } else if first.as_slice() == b"explain".as_slice() {
-        Call::Explanations
+        Call::Slacks
     } else if first.as_slice() == b"sections".as_slice() {
         Call::Sections
     } else if first.as_slice() == b"run".as_slice() {
@@ -113,7 +115,7 @@ pub fn answer_to<S: Source, K: Sink>(
         Call::Notes => Answer::Drawing(notes_main(alloc, words, source, sink)),
         Call::Margins => Answer::Drawing(margin_main(alloc, words, source, sink)),
         Call::Chains => Answer::Drawing(chain_main(alloc, words, source, sink)),
-        Call::Explanations => Answer::Drawing(explain_main(alloc, words, source, sink)),
+        Call::Slacks => Answer::Drawing(slack_main(alloc, words, source, sink)),
         Call::Sections => Answer::Sections(sections_main(alloc, words, source, sink)),
         Call::Simulator => Answer::Run(trace_main(alloc, words, source, sink)),
     }

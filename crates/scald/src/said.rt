@@ -18,9 +18,10 @@ pub const FORMS: &str = "usage:
     scald notes <DRAWING                               what the drawing does not say
     scald format <DRAWING                              the drawing in its canonical form
     scald upgrade <DRAWING                             the drawing in version 2 of the language
+    scald slack [worst=N] [rounds=N] <DRAWING          by how many ticks each limit is met or missed, the worst first
+    scald explain [worst=N] [rounds=N] <DRAWING        the changes that come to the worst of them, and their sums
     scald margins <DRAWING                             by how much more each checker may ask for
     scald chains <DRAWING                              where each fault comes from
-    scald explain <DRAWING                             why there are faults, by how much, and where that stands in the drawing
     scald sections <DRAWINGS                           verify of drawings with a line ===== between them, each by itself and joined
     scald run T SEED [case=K] <DRAWING                 a run of T ticks that a seed draws, 1 to 4096, as a trace
     scald judge F <TRACE-AND-DRAWING                   whether the trace is a run, and what breaks in it from tick F on

@@ -1,4 +1,0 @@
-pub mod Backwards
-pub mod Turning
-pub mod Named
-pub mod Examples

@@ -1,4 +1,0 @@
-pub mod Naming
-pub mod Words
-pub mod Places
-pub mod Elements

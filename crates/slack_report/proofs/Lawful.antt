@@ -1,0 +1,29 @@
+-- Each reply speaks of the text, whatever stands between the first line of the answer and the last.
+use Rattle.std.proofs.Common.{◌≡◌, ◌∙◌, ℕ, List, ap, sym, refl, Option, None}
+use Rattle.scald_base.specs.declared.outcome.Outcome.{Outcome}
+use Rattle.scald_base.specs.Outcome.{end_of}
+use Rattle.program_call.specs.Answer.{Evaluated}
+use Rattle.program_call.specs.Program.{IsLawful}
+use Rattle.program_call.proofs.Answering.{end_of_ended}
+use Rattle.program_call.proofs.Outcomes.{HoldsOfReports}
+use Rattle.program_call.proofs.Speaking.{evaluated_speaks, verdict_speaks}
+use Rattle.slack_report.specs.declared.request.Request.{Request}
+use Rattle.slack_report.specs.Answer.{slack_program, slacks_of}
+
+slacks_speak : HoldsOfReports (λ o. end_of o ≡ None) slacks_of
+slacks_speak d c base cases o bytes is = ap end_of is.outcome ∙ verdict_speaks is.broken
+
+reply_speaks : (rounds : Option ℕ) (text : List ℕ) (o : Outcome) (bytes : List ℕ) →
+    Evaluated slacks_of rounds text o bytes → end_of o ≡ None
+reply_speaks rounds text o bytes = evaluated_speaks slacks_of rounds text o bytes slacks_speak
+
+pub slack_program_lawful : IsLawful slack_program
+slack_program_lawful = record {
+  ends = end_of_ended;
+  replies = λ (request : Request) text o bytes. reply_speaks request.rounds text o bytes;
+  one = λ (request : Request) text o o' bytes bytes' is is'.
+      reply_speaks request.rounds text o bytes is
+      ∙ sym (reply_speaks request.rounds text o' bytes' is');
+  same = λ o bytes. refl;
+  unread = λ request text other o bytes none is. absurd (cc);
+}

@@ -1,0 +1,89 @@
+//! What stands between the first line of an answer and the last ones.
+
+use crate::groups::{Groups, grouped};
+use crate::page::Page;
+use crate::paragraphs::put_paragraphs;
+use crate::sheet::{Names, Sheet};
+use crate::table::put_table;
+use drawing_tree::Drawing;
+use flat_circuit::Circuit;
+use scald_base::{Bytes, NoMemory};
+use slack_rows::Rows;
+use std::alloc::Global;
+
+/// Lines, and how many limits have a row.
+#[derive(Drop)]
+pub struct Body {
+    pub lines: Bytes,
+    pub limits: usize,
+}
+
+/// The lines of the table of these rows.
+fn table_lines(sheet: Sheet, groups: &Groups, worst: Option<u32>) -> Result<Bytes, NoMemory> {
+    let mut page = Page::new(sheet.alloc);
+    put_table(&mut page, sheet, groups, worst)?;
+    page.done()
+}
+
+/// The lines of the paragraphs on these rows.
+fn paragraph_lines(
+    sheet: Sheet,
+    drawing: &Drawing,
+    groups: &Groups,
+    worst: Option<u32>,
+) -> Result<Bytes, NoMemory> {
+    let mut page = Page::new(sheet.alloc);
+    put_paragraphs(&mut page, sheet, drawing, groups, worst);
+    page.done()
+}
+
+/// The table of a sheet.
+fn table_of(sheet: Sheet, worst: Option<u32>) -> Result<Body, NoMemory> {
+    let groups = grouped(sheet)?;
+    let lines = table_lines(sheet, &groups, worst)?;
+    let limits = groups.limits;
+    Ok(Body { lines, limits })
+}
+
+/// The paragraphs of a sheet.
+fn paragraphs_of(sheet: Sheet, drawing: &Drawing, worst: Option<u32>) -> Result<Body, NoMemory> {
+    let groups = grouped(sheet)?;
+    let lines = paragraph_lines(sheet, drawing, &groups, worst)?;
+    let limits = groups.limits;
+    Ok(Body { lines, limits })
+}
+
+/// The table of a circuit's slacks, with at least so many rows where there are.
+pub fn table(
+    alloc: Global,
+    circuit: &Circuit,
+    rows: &Rows,
+    worst: Option<u32>,
+) -> Result<Body, NoMemory> {
+    let names = Names::new(alloc, circuit)?;
+    let sheet = Sheet {
+        alloc,
+        circuit,
+        rows,
+        names: &names,
+    };
+    table_of(sheet, worst)
+}
+
+/// The paragraphs on a circuit's slacks, of so many rows where that is asked for.
+pub fn paragraphs(
+    alloc: Global,
+    circuit: &Circuit,
+    rows: &Rows,
+    drawing: &Drawing,
+    worst: Option<u32>,
+) -> Result<Body, NoMemory> {
+    let names = Names::new(alloc, circuit)?;
+    let sheet = Sheet {
+        alloc,
+        circuit,
+        rows,
+        names: &names,
+    };
+    paragraphs_of(sheet, drawing, worst)
+}

@@ -1,0 +1,262 @@
+//! Bits of one statement with equal sums, which are one row.
+
+use crate::sheet::{Limit, Sheet, Statement};
+use critical_paths::{At, Direction, End, Node, Passage};
+use indexmap::IndexSet;
+use scald_base::{List, NoMemory};
+use slack_rows::{By, Parameter, Rank, Slack, Subject, Word};
+use std::alloc::Global;
+
+/// Bits of one statement with equal sums: the first, and all.
+#[derive(Drop)]
+pub struct Row {
+    pub first: Limit,
+    pub limits: List<Limit>,
+}
+
+/// The rows, the worst first, and how many limits they have.
+#[derive(Drop)]
+pub struct Groups {
+    pub rows: List<Row>,
+    pub limits: usize,
+}
+
+/// A limit that something can break: its row, where its slack is sorted, and its place among all.
+#[derive(Clone, Copy, PartialEq, Eq, PartialOrd, Ord)]
+struct Entry {
+    row: usize,
+    rank: Rank,
+    place: usize,
+}
+
+/// A link without its bits, and the number of what stands before it.
+#[derive(Clone, Copy, PartialEq, Eq, Hash)]
+struct Shape {
+    name: usize,
+    direction: Direction,
+    passage: Option<Passage>,
+    statement: Option<Statement>,
+    end: End,
+    rest: usize,
+}
+
+/// The shapes of paths: those of links, each once, and of each event the number of its path's from
+/// 1, or 0.
+#[derive(Drop)]
+struct Shapes {
+    distinct: IndexSet<Shape>,
+    known: List<usize>,
+}
+
+/// A path without its bits: its shape, and its ticks.
+#[derive(Clone, Copy, PartialEq, Eq, Hash)]
+struct Outline {
+    shape: usize,
+    tick: i64,
+    begin: i64,
+    wire: u16,
+}
+
+/// What is equal in a row.
+#[derive(Clone, Copy, PartialEq, Eq, Hash)]
+struct Key {
+    word: Word,
+    limit: u16,
+    slack: Slack,
+    edge: (i64, i64),
+    pin: u16,
+    is_either: bool,
+    is_repeated: bool,
+    statement: Option<Statement>,
+    data: Option<Outline>,
+    clock: Option<Outline>,
+    cases: usize,
+}
+
+/// The limits that something can break and that are not told before, by their slacks.
+fn entries_of(sheet: Sheet) -> Result<Vec<Entry>, NoMemory> {
+    let mut entries = Vec::new(sheet.alloc);
+    for place in 0..sheet.rows.parameters.len() {
+        if let Some(limit) = sheet.limit(place) {
+            if !sheet.is_told(place) {
+                entries.push(Entry {
+                    row: 0,
+                    rank: limit.least.told.slack.rank(),
+                    place,
+                })?;
+            }
+        }
+    }
+    entries.sort()?;
+    Ok(entries)
+}
+
+impl Shapes {
+    /// No shapes, of so many events.
+    fn new(alloc: Global, events: usize) -> Result<Shapes, NoMemory> {
+        let mut known = List::with_room(alloc, events)?;
+        for _ in 0..events {
+            known.push(0)?;
+        }
+        Ok(Shapes {
+            distinct: IndexSet::new(alloc),
+            known,
+        })
+    }
+
+    /// The number from 1 of the shape of an event's path that is known, or 0.
+    fn known(&self, number: usize) -> usize {
+        self.known.get(number).copied().unwrap_or(0)
+    }
+
+    /// Adds the events of a path that have no shape yet, and gives the shape of the one after the
+    /// last of them, or 0.
+    fn add_unknown(
+        &self,
+        sheet: Sheet,
+        start: usize,
+        events: &mut List<usize>,
+    ) -> Result<usize, NoMemory> {
+        let mut number = start;
+        for _ in 0..sheet.event_count(start) {
+            let rest = self.known(number);
+            if rest > 0 {
+                return Ok(rest);
+            }
+            events.push(number)?;
+            number = sheet.before(number);
+        }
+        Ok(0)
+    }
+
+    /// Keeps the shape of an event's path.
+    fn remember(&mut self, event: usize, shape: usize) {
+        if event < self.known.len() {
+            self.known.set(event, shape);
+        }
+    }
+
+    /// The number from 1 of the shape of an event's path, which ends like this, by that of the
+    /// event before. The events of a loop have no shape of their own, since each has another begin.
+    fn add(
+        &mut self,
+        sheet: Sheet,
+        event: usize,
+        end: End,
+        rest: usize,
+    ) -> Result<usize, NoMemory> {
+        let Some(Node { stop, passage, .. }) = sheet.node(event) else {
+            return Ok(rest);
+        };
+        let (number, _) = self.distinct.insert_full(Shape {
+            name: sheet.names.nets.number(stop.net),
+            direction: stop.direction,
+            passage,
+            statement: sheet.statement(Subject::Net(stop.net)),
+            end,
+            rest,
+        })?;
+        let shape = number.saturating_add(1);
+        if end != End::Loop {
+            self.remember(event, shape);
+        }
+        Ok(shape)
+    }
+
+    /// The number from 1 of the shape of an event's path: the links that are not known up to one
+    /// that is, and then back.
+    fn of(&mut self, sheet: Sheet, start: usize) -> Result<usize, NoMemory> {
+        let Some(node) = sheet.node(start) else {
+            return Ok(0);
+        };
+        let mut events = List::new(sheet.alloc);
+        let mut rest = self.add_unknown(sheet, start, &mut events)?;
+        for back in 0..events.len() {
+            let event = events.as_slice()[events.len() - 1 - back];
+            rest = self.add(sheet, event, node.end, rest)?;
+        }
+        Ok(rest)
+    }
+
+    /// That of a path, if there is one.
+    fn outline(&mut self, sheet: Sheet, at: Option<At>) -> Result<Option<Outline>, NoMemory> {
+        let Some(at) = at else {
+            return Ok(None);
+        };
+        Ok(Some(Outline {
+            shape: self.of(sheet, at.node)?,
+            tick: at.tick,
+            begin: sheet.begin(at),
+            wire: at.wire,
+        }))
+    }
+
+    /// What is equal in the row of a limit.
+    fn key(&mut self, sheet: Sheet, of: Limit) -> Result<Key, NoMemory> {
+        let Parameter {
+            subject,
+            word,
+            limit,
+        } = of.parameter;
+        let told = of.least.told;
+        Ok(Key {
+            word,
+            limit,
+            slack: told.slack,
+            edge: (told.window.first, told.window.last),
+            pin: told.pin,
+            is_either: of.after.is_some(),
+            is_repeated: told.by == By::Repeated,
+            statement: sheet.statement(subject),
+            data: self.outline(sheet, of.least.data)?,
+            clock: self.outline(sheet, of.least.clock)?,
+            cases: of.least.cases,
+        })
+    }
+}
+
+/// Gives each limit its row, the worst first.
+fn number_rows(sheet: Sheet, entries: &mut [Entry]) -> Result<(), NoMemory> {
+    let mut shapes = Shapes::new(sheet.alloc, sheet.rows.paths.len())?;
+    let mut rows: IndexSet<Key> = IndexSet::new(sheet.alloc);
+    for at in 0..entries.len() {
+        let entry = entries[at];
+        if let Some(limit) = sheet.limit(entry.place) {
+            let (row, _) = rows.insert_full(shapes.key(sheet, limit)?)?;
+            entries[at] = Entry { row, ..entry };
+        }
+    }
+    Ok(())
+}
+
+/// The limits of the first row of some entries.
+fn first_row(sheet: Sheet, entries: &[Entry]) -> Result<List<Limit>, NoMemory> {
+    let mut limits = List::new(sheet.alloc);
+    for at in 0..entries.len() {
+        if entries[at].row != entries[0].row {
+            break;
+        }
+        if let Some(limit) = sheet.limit(entries[at].place) {
+            limits.push(limit)?;
+        }
+    }
+    Ok(limits)
+}
+
+/// The limits that something can break, row by row, the worst first.
+pub fn grouped(sheet: Sheet) -> Result<Groups, NoMemory> {
+    let mut entries = entries_of(sheet)?;
+    number_rows(sheet, &mut entries)?;
+    entries.sort()?;
+    let mut rows = List::new(sheet.alloc);
+    for at in 0..entries.len() {
+        if at == 0 || entries[at].row != entries[at - 1].row {
+            if let Some(first) = sheet.limit(entries[at].place) {
+                let limits = first_row(sheet, &entries[at..])?;
+                rows.push(Row { first, limits })?;
+            }
+        }
+    }
+    let limits = entries.len();
+    Ok(Groups { rows, limits })
+}

@@ -1,0 +1,33 @@
+//! By how much the limits of a drawing are met: as a table of all, and as paragraphs on the worst,
+//! with the changes that come to them.
+//!
+//! The program calls [`slack_main`] for both, the main call of `program_call` for the program
+//! [`SlackProgram`]. `specs/Words` says what words ask for, `specs/Answer` which outcome an answer
+//! has and what stands in its first and its last line, and `specs/Promise` what the call promises
+//! beside. The lines between them are not exact; their numbers are those of `slack_rows` and
+//! `critical_paths`.
+#![tactic(auto)]
+
+// what is told of, and in which words
+mod page;
+mod sheet;
+mod words;
+
+// rows
+mod groups;
+mod table;
+
+// paragraphs
+mod paragraph;
+mod paragraphs;
+mod path_lines;
+
+// case by case, and what goes out
+mod answer;
+mod body;
+mod collected;
+mod program;
+mod reporter;
+mod request;
+
+pub use program::{SlackProgram, slack_main};

@@ -1,0 +1,280 @@
+//! What is told of: a circuit, and the slacks of its limits.
+
+ghost use Rattle.std.specs.Prelude.{◌≤ℤ◌, pos};
+
+use critical_paths::{At, Node, Nodes, Parts, Steps, counted_twice};
+use drawing_places::scope_len;
+use flat_circuit::{Circuit, Instance};
+use indexmap::IndexSet;
+use scald_base::{Bytes, List, NoMemory};
+use slack_rows::{Least, Parameter, Rows, Slack, Subject};
+use std::alloc::Global;
+
+/// Texts, each of which has a number, and how many have it.
+#[derive(Drop)]
+pub struct Texts {
+    distinct: IndexSet<Bytes>,
+    numbers: List<usize>,
+    counts: List<u32>,
+}
+
+impl Texts {
+    /// No texts.
+    fn new(alloc: Global) -> Texts {
+        Texts {
+            distinct: IndexSet::new(alloc),
+            numbers: List::new(alloc),
+            counts: List::new(alloc),
+        }
+    }
+
+    /// One text more.
+    fn add(&mut self, alloc: Global, text: &[u8]) -> Result<(), NoMemory> {
+        let mut bytes = Bytes::new(alloc);
+        bytes.extend(text)?;
+        let (number, is_new) = self.distinct.insert_full(bytes)?;
+        if is_new {
+            self.counts.push(0)?;
+        }
+        self.count(number);
+        self.numbers.push(number)
+    }
+
+    /// Counts the text of a number once more.
+    fn count(&mut self, number: usize) {
+        if number < self.counts.len() {
+            let count = self.counts.as_slice()[number];
+            self.counts.set(number, count.saturating_add(1));
+        }
+    }
+
+    /// The number of the text at a place.
+    pub fn number(&self, place: u32) -> usize {
+        self.numbers.get(place as usize).copied().unwrap_or(0)
+    }
+
+    /// Whether no other has it.
+    pub fn is_alone(&self, place: u32) -> bool {
+        self.counts.get(self.number(place)) == Some(&1)
+    }
+}
+
+/// The names of nets, the paths of instances and their scopes.
+#[derive(Drop)]
+pub struct Names {
+    pub nets: Texts,
+    pub paths: Texts,
+    pub scopes: Texts,
+}
+
+impl Names {
+    /// Those of a circuit.
+    pub fn new(alloc: Global, c: &Circuit) -> Result<Names, NoMemory> {
+        let mut names = Names {
+            nets: Texts::new(alloc),
+            paths: Texts::new(alloc),
+            scopes: Texts::new(alloc),
+        };
+        for net in 0..c.net_count() {
+            names.nets.add(alloc, name_of(c, Subject::Net(net)).0)?;
+        }
+        for number in 0..c.instance_count() {
+            let (path, _) = name_of(c, Subject::Instance(number));
+            names.paths.add(alloc, path)?;
+            names.scopes.add(alloc, &path[..scope_len(path)])?;
+        }
+        Ok(names)
+    }
+}
+
+/// The name of a net or an instance, and its bit.
+pub fn name_of(c: &Circuit, subject: Subject) -> (&[u8], u16) {
+    match subject {
+        Subject::Instance(number) => match c.instance(number) {
+            Some(found) => (found.path.as_slice(), found.bit),
+            None => (&[], 0),
+        },
+        Subject::Net(number) => match c.net(number) {
+            Some(found) => (found.name.as_slice(), found.bit),
+            None => (&[], 0),
+        },
+    }
+}
+
+/// A circuit with its slacks.
+#[derive(Clone, Copy)]
+pub struct Sheet<'a> {
+    pub alloc: Global,
+    pub circuit: &'a Circuit,
+    pub rows: &'a Rows,
+    pub names: &'a Names,
+}
+
+/// A limit that something can break: its least slack, and that of the other side where one region
+/// of changes breaks both.
+#[derive(Clone, Copy)]
+pub struct Limit {
+    pub parameter: Parameter,
+    pub least: Least,
+    pub after: Option<Least>,
+}
+
+/// A statement in a scope.
+#[derive(Clone, Copy, PartialEq, Eq, Hash)]
+pub struct Statement {
+    pub scope: usize,
+    pub line: u32,
+    pub col: u32,
+}
+
+impl<'a> Sheet<'a> {
+    /// The slots of a period.
+    pub fn period(self) -> i64
+        ensures { pos 1 ≤ℤ result }
+    {
+        i64::from(self.circuit.header().period())
+    }
+
+    /// The event of a number, if there is one.
+    pub fn node(self, number: usize) -> Option<Node> {
+        if number < self.rows.paths.len() {
+            Some(self.rows.paths.node(number))
+        } else {
+            None
+        }
+    }
+
+    /// How many events there are on the path of one.
+    pub fn event_count(self, number: usize) -> usize {
+        match self.node(number) {
+            Some(node) => node.count,
+            None => 0,
+        }
+    }
+
+    /// The number of the event before one.
+    pub fn before(self, number: usize) -> usize {
+        match self.node(number) {
+            Some(node) => node.next,
+            None => number,
+        }
+    }
+
+    /// The tick at which a path begins; 0 where there is no such path.
+    pub fn begin(self, at: At) -> i64 {
+        if self.rows.paths.has(at) {
+            self.rows.paths.begin(at)
+        } else {
+            0
+        }
+    }
+
+    /// The steps of a path; none where there is no such path.
+    pub fn steps(self, at: At) -> Result<Steps, NoMemory> {
+        if self.rows.paths.has(at) {
+            self.rows.paths.steps(self.alloc, at)
+        } else {
+            Ok(Steps::new(self.alloc))
+        }
+    }
+
+    /// The events of a path.
+    pub fn way(self, at: At) -> Result<Nodes, NoMemory> {
+        if self.rows.paths.has(at) {
+            self.rows.paths.way(self.alloc, at.node)
+        } else {
+            Ok(Nodes::new(self.alloc))
+        }
+    }
+
+    /// How many ticks before the clock the data is launched, where both come from one clock.
+    pub fn ago(self, data: At, clock: At) -> Option<i64> {
+        if self.rows.paths.has(data) && self.rows.paths.has(clock) {
+            self.rows.paths.ago(data, clock)
+        } else {
+            None
+        }
+    }
+
+    /// The slack of the limit at a place, if something can break it.
+    fn least(self, place: usize) -> Option<Least> {
+        *self.rows.least.get(place)?
+    }
+
+    /// What two paths take from one constant of a run.
+    pub fn counted_twice(self, data: At, clock: At) -> Result<Parts, NoMemory> {
+        let paths = &self.rows.paths;
+        if paths.has(data) && paths.has(clock) {
+            counted_twice(self.alloc, self.circuit, paths, data, clock)
+        } else {
+            Ok(Parts::new(self.alloc))
+        }
+    }
+
+    /// Whether the limit at a place is told with the one before it.
+    pub fn is_told(self, place: usize) -> bool {
+        place < self.rows.parameters.len() && self.rows.is_told(place)
+    }
+
+    /// The slack of the limit after it, if that is told with it.
+    fn after(self, place: usize) -> Option<Least> {
+        let next = place.checked_add(1)?;
+        if self.is_told(next) {
+            self.least(next)
+        } else {
+            None
+        }
+    }
+
+    /// The limit at a place, if something can break it.
+    pub fn limit(self, place: usize) -> Option<Limit> {
+        let parameter = *self.rows.parameters.get(place)?;
+        let least = self.least(place)?;
+        let after = match least.told.slack {
+            Slack::NoNumber(_) => None,
+            Slack::Ticks(_) | Slack::Way(_) => self.after(place),
+        };
+        Some(Limit {
+            parameter,
+            least,
+            after,
+        })
+    }
+
+    /// The instance that a subject is, or that drives it.
+    pub fn instance(self, subject: Subject) -> Option<(u32, &'a Instance)> {
+        let number = match subject {
+            Subject::Instance(number) => number,
+            Subject::Net(net) => self.circuit.net(net)?.driver?,
+        };
+        Some((number, self.circuit.instance(number)?))
+    }
+
+    /// Where its statement stands.
+    pub fn statement(self, subject: Subject) -> Option<Statement> {
+        let (number, instance) = self.instance(subject)?;
+        Some(Statement {
+            scope: self.names.scopes.number(number),
+            line: instance.place.line,
+            col: instance.place.col,
+        })
+    }
+
+    /// The line of its statement.
+    pub fn line(self, subject: Subject) -> i64 {
+        match self.instance(subject) {
+            Some((_, instance)) => i64::from(instance.place.line),
+            None => 0,
+        }
+    }
+
+    /// The numbers of the cases of a set.
+    pub fn cases_of(self, set: usize) -> Result<List<u32>, NoMemory> {
+        self.rows.cases_of(self.alloc, set)
+    }
+
+    /// Whether there are cases.
+    pub fn has_cases(self) -> bool {
+        !matches!(self.rows.cases.as_slice(), [0])
+    }
+}

@@ -1,0 +1,190 @@
+//! Words and names.
+
+ghost use Rattle.std.specs.Prelude.{◌≤◌, length};
+
+use crate::page::{Page, columns};
+use crate::sheet::{Limit, Sheet, name_of};
+use critical_paths::Direction;
+use scald_base::same_bytes;
+use slack_rows::{Least, Parameter, Reason, Slack, Subject, Word};
+
+/// Puts the word of a limit, with its number where it has one.
+pub fn put_limit(page: &mut Page, parameter: Parameter) {
+    let text: &[u8] = match parameter.word {
+        Word::Setup => b"SETUP #",
+        Word::Hold => b"HOLD #",
+        Word::High => b"HIGH #",
+        Word::Low => b"LOW #",
+        Word::Gate => b"GATE",
+        Word::Before => b"GATE BEFORE",
+        Word::After => b"GATE AFTER",
+        Word::Assert => b"ASSERT",
+        Word::From => b"STABLE FROM",
+        Word::To => b"STABLE TO",
+    };
+    page.fill(text, &[i64::from(parameter.limit)]);
+}
+
+/// Puts a slack.
+pub fn put_slack(page: &mut Page, slack: Slack) {
+    match slack {
+        Slack::NoNumber(_) => page.put(b"none"),
+        Slack::Ticks(ticks) => page.number(ticks),
+        Slack::Way(ticks) => page.fill(b"#*", &[ticks]),
+    }
+}
+
+/// Puts why there is no number.
+pub fn put_reason(page: &mut Page, reason: Reason) {
+    let text: &[u8] = match reason {
+        Reason::Data => b"the data may change at any tick",
+        Reason::DataLoop => b"the data may change at any tick, and a way to it comes from a loop",
+        Reason::Clock => b"the clock may rise at any tick",
+        Reason::High => b"the clock may stay high for a whole period",
+        Reason::Mark => b"the mark may let changes through at any tick",
+        Reason::Still => b"the assertion permits no change",
+        Reason::Level(one, tick) => {
+            let numbers = [i64::from(one), i64::from(tick)];
+            return page.fill(b"it may be # at tick #", &numbers);
+        }
+    };
+    page.put(text);
+}
+
+/// What a step does.
+pub fn verb(direction: Direction) -> &'static [u8] {
+    match direction {
+        Direction::Rise => b"rises",
+        Direction::Fall => b"falls",
+        Direction::Change => b"changes",
+    }
+}
+
+/// The name of a net or an instance, and its bit where that is told: where there is another, or it
+/// is not 0.
+fn told_name<'a>(sheet: Sheet<'a>, subject: Subject) -> (&'a [u8], Option<u16>) {
+    let (text, bit) = name_of(sheet.circuit, subject);
+    let is_alone = match subject {
+        Subject::Instance(number) => sheet.names.paths.is_alone(number),
+        Subject::Net(net) => sheet.names.nets.is_alone(net),
+    };
+    (
+        text,
+        if is_alone && bit == 0 {
+            None
+        } else {
+            Some(bit)
+        },
+    )
+}
+
+/// Puts the name of a net or an instance, whose bit is left out where it is the only one.
+pub fn put_name(page: &mut Page, sheet: Sheet, subject: Subject) {
+    let (text, bit) = told_name(sheet, subject);
+    page.put(text);
+    if let Some(bit) = bit {
+        page.fill(b"<#>", &[i64::from(bit)]);
+    }
+}
+
+/// How many columns the name of a net fills.
+pub fn name_width(sheet: Sheet, net: u32) -> usize {
+    let (text, bit) = told_name(sheet, Subject::Net(net));
+    match bit {
+        Some(bit) => text
+            .len()
+            .saturating_add(2)
+            .saturating_add(columns(i64::from(bit))),
+        None => text.len(),
+    }
+}
+
+/// The name of what a limit is of, and its bit.
+fn limit_name<'a>(sheet: Sheet<'a>, limit: Limit) -> (&'a [u8], i64) {
+    let (name, bit) = name_of(sheet.circuit, limit.parameter.subject);
+    (name, i64::from(bit))
+}
+
+/// How many limits from the first on have its name.
+fn same_count(sheet: Sheet, limits: &[Limit]) -> usize
+    ensures { result ≤ length limits.now }
+{
+    let Some(first) = limits.first() else {
+        return 0;
+    };
+    let (name, _) = limit_name(sheet, *first);
+    for (count, limit) in limits.iter().enumerate() {
+        if !same_bytes(limit_name(sheet, *limit).0, name) {
+            return count;
+        }
+    }
+    limits.len()
+}
+
+/// Whether bits follow each other.
+fn are_in_turn(sheet: Sheet, limits: &[Limit], first: i64) -> bool {
+    let mut next = first;
+    for limit in limits {
+        if limit_name(sheet, *limit).1 != next {
+            return false;
+        }
+        next = next.saturating_add(1);
+    }
+    limits.len() > 1
+}
+
+/// Puts the bits of one name: those that follow each other by the first and the last.
+fn put_bits(page: &mut Page, sheet: Sheet, limits: &[Limit]) {
+    let (Some(first), Some(last)) = (limits.first(), limits.last()) else {
+        return;
+    };
+    let (name, bit) = limit_name(sheet, *first);
+    page.put(name);
+    if are_in_turn(sheet, limits, bit) {
+        return page.fill(b"<#:#>", &[bit, limit_name(sheet, *last).1]);
+    }
+    for (at, limit) in limits.iter().enumerate() {
+        let text: &[u8] = if at == 0 { b"<#" } else { b",#" };
+        page.fill(text, &[limit_name(sheet, *limit).1]);
+    }
+    page.put(b">");
+}
+
+/// How many names there are.
+fn name_count(sheet: Sheet, limits: &[Limit]) -> i64 {
+    let mut count: i64 = 0;
+    let mut name: &[u8] = b"";
+    for limit in limits {
+        let (own, _) = limit_name(sheet, *limit);
+        if !same_bytes(own, name) {
+            count = count.saturating_add(1);
+            name = own;
+        }
+    }
+    count
+}
+
+/// Puts the names of a row: of three or more the first, and how many more.
+pub fn put_names(page: &mut Page, sheet: Sheet, limits: &[Limit]) {
+    let names = name_count(sheet, limits);
+    let (first, others) = limits.split_at(same_count(sheet, limits));
+    put_bits(page, sheet, first);
+    if names == 2 {
+        page.put(b", ");
+        put_bits(page, sheet, others);
+    }
+    if names > 2 {
+        page.fill(b" and # more", &[names - 1]);
+    }
+}
+
+/// Puts the numbers of the cases in which a limit has its least slack.
+pub fn put_cases(page: &mut Page, sheet: Sheet, least: Least) {
+    let Ok(cases) = sheet.cases_of(least.cases) else {
+        return page.lose();
+    };
+    for (at, case) in cases.as_slice().iter().enumerate() {
+        let text: &[u8] = if at == 0 { b"#" } else { b",#" };
+        page.fill(text, &[i64::from(*case)]);
+    }
+}

@@ -1,3 +1,0 @@
-pub mod Group
-pub mod Kept
-pub mod Whole
