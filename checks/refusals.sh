@@ -123,8 +123,7 @@ helps 'it begins a byte order mark: save the text without it'
 printf ' \357\273\277SCALD 1;\n' | refused '1 BadByte 1:2'
 printf 'SCALD 1;\n\001' | refused '1 BadByte 2:1'
 printf 'SCALD 1;\nCLOCK 8 x 50;\nDRAWING ROW;\nb1 : BUF [0:0] ("CK' | refused '2 BadToken 4:17'
-helps 'a name ends on its own line, with a second ", and has no tab in it' \
-    'or a quote is missing before this on its line'
+helps 'a name ends on its own line, with a second ", and has no tab in it'
 early '2 BadToken 4:17' 'b1 : BUF [0:0] ("C	K") -> ("X");'
 # a quote is missing further to the left: of the quotes from the place on one has no second
 early '2 BadToken 4:35' 'b1 : AND [0:0] ("A<0>, "B") -> ("X");'
@@ -136,8 +135,7 @@ helps 'a word has at most 64 letters, digits and underscores'
 early '2 BadToken 4:13' 'b1 : BUF [0:9223372036854775808] ("A") -> ("X");'
 helps 'a number is at most 9223372036854775807'
 early '2 BadToken 4:28' 'b1 : BUF [0:0] ("A) -> ("X .S1-8");'
-helps 'an assertion stands in the quotes of its name, after a space, as in "A .S1-8"' \
-    'or a quote is missing before this on its line'
+helps 'an assertion stands in the quotes of its name, after a space, as in "A .S1-8"'
 # (a comment may have any quotes)
 early '2 BadToken 4:35' 'b1 : BUF [0:0] ("A") -> ("X" !H); ? -- 5" wide'
 helps 'symbols are ; : , ( ) < > [ ] { } = + - * / & ! and ->, and a comment begins with --'
@@ -159,11 +157,11 @@ helps 'the end of the text cannot come first: a text begins with SCALD 2;'
 text '3 Syntax 2:1' 'SCALD 1;' 'clock 8 x 50;'
 helps "'clock' cannot stand here, after ';'" 'is CLOCK meant?'
 text '3 Syntax 2:9' 'SCALD 1;' 'CLOCK 8 x50;'
-helps "'x50' cannot stand here, after '8'" 'is a space missing after the x?'
+helps "'x50' cannot stand here, after '8'"
 text '3 Syntax 2:8' 'SCALD 1;' 'CLOCK 8x50ns;'
 text '3 Syntax 3:1' 'SCALD 1;' 'CLOCK 8 x 50;'
 text '3 Syntax 1:9' 'SCALD 1;;'
-helps "';' cannot stand here, after ';'" 'is this ; one too many?'
+helps "';' cannot stand here, after ';'"
 early '3 Syntax 4:9' 'a:B()->();'
 early '3 Syntax 4:4' 'IF : BUF [0:0] ("A") -> ("X");'
 helps "':' cannot stand here, after 'IF'" \
@@ -193,7 +191,7 @@ helps "'=' cannot stand here, after '='" 'equal is written ='
 second '3 Syntax 4:6' 'DRAWING ROW;' 'IF 1 := 1 THEN' 'END;' 'END;'
 # (without the : the range would be one bit)
 early '3 Syntax 4:21' 'b1 : BUF [0:0] ("A"<:3>) -> ("X"<0:3>);'
-helps "':' cannot stand here, after '<'" 'is a number missing before the : of the range?'
+helps "':' cannot stand here, after '<'"
 # (with an arrow in its place, or without it, the statement would say something else)
 early '3 Syntax 4:26' 'a : AND [1:2] ("CK", "D" -> "Q");'
 early '3 Syntax 4:5' 'END ELSE;'
@@ -204,7 +202,7 @@ early '3 Syntax 4:11' 'b1 : BUF [ONE:1] ("A") -> ("X");'
 helps "'ONE' cannot stand here, after '['" \
     'ONE is reserved: it cannot be a label, a macro, a parameter, a constant or a drawing'
 early '15 TooDeep 4:75' "b1 : BUF [$(many 65 '(')0$(many 65 ')'):0] (\"A\") -> (\"X\");"
-helps 'an expression has at most 64 operators, and at most 64 parentheses and minus signs are open at once'
+helps 'at most 64 uses of macros, 64 IFs and FORs, and 64 operators, parentheses and minus signs are nested'
 early '15 TooDeep 4:75' "b1 : BUF [$(many 33 '-(')0$(many 33 ')'):0] (\"A\") -> (\"X\");"
 early '15 TooDeep 4:139' "b1 : BUF [$(many 65 '- ')0:0] (\"A\") -> (\"X\");"
 early '15 TooDeep 4:140' "b1 : BUF [0$(many 65 '+1'):70] (\"A\") -> (\"X\");"
@@ -221,21 +219,18 @@ helps "'[' cannot stand here, after ']'" 'connections stand in ( )'
 early '15 TooDeep 4:82' "b1 : BUF [0:0, 0:$(many 65 '(')0$(many 65 ')')] (\"A\") -> (\"X\");"
 early '15 TooDeep 4:401' "b1 : BUF [0$(many 64 '+1'):0$(many 64 '+1'), 0$(many 65 '+1'):0] (\"A\") -> (\"X\");"
 early '15 TooDeep 4:641' "$(many 65 'IF 1 THEN ')b1 : BUF [0:0] (\"A\") -> (\"X\"); $(many 65 'END; ')"
-helps 'at most 64 IFs and FORs may be inside one another, and this is one more'
+helps 'at most 64 uses of macros, 64 IFs and FORs, and 64 operators, parentheses and minus signs are nested'
 
 second '3 Syntax 7:1' 'MACRO M ("A") -> ("Z");' 'IF 1 THEN' 'b1 : BUF [0:0] ("A") -> ("Z");' 'END;' 'DRAWING ROW;' 'END;'
-helps "'DRAWING' cannot stand here, after ';'" 'the MACRO at 3:1 has no END before this' \
-    'the last END before this, at 6:1, is that of the IF at 4:1'
+helps "'DRAWING' cannot stand here, after ';'" 'the MACRO at 3:1 has no END before this'
 second '3 Syntax 6:1' 'MACRO M ();' 'IF 1 THEN' 'ELSE' 'DRAWING ROW;' 'END;'
 second '3 Syntax 7:1' 'DRAWING ROW;' 'FOR I = 0 TO 1 DO' 'b1 : BUF [0:0] ("A"<I>) -> ("X"<I>);' 'END;'
 # an IF without END takes that of the macro, also where a second IF is in it
 second '3 Syntax 7:1' 'MACRO M ("A") -> ("Z");' 'IF 1 THEN' 'b1 : BUF [0:0] ("A") -> ("Z");' 'END;' 'MACRO N ();' 'END;' 'DRAWING ROW;' 'END;'
-helps "'MACRO' cannot stand here, after ';'" 'the MACRO at 3:1 has no END before this' \
-    'the last END before this, at 6:1, is that of the IF at 4:1'
+helps "'MACRO' cannot stand here, after ';'" 'the MACRO at 3:1 has no END before this'
 second '3 Syntax 9:1' 'DRAWING ROW;' 'IF 1 THEN' 'b1 : BUF [0:0] ("A") -> ("X");' 'IF 0 THEN' 'END;' 'END;'
 second '3 Syntax 7:1' 'DRAWING ROW;' 'IF 1 THEN' 'ELSE' 'END;' 'CASE "SEL"=1;' 'END;'
-helps "'CASE' cannot stand here, after ';'" 'the DRAWING at 3:1 has no END before this' \
-    'the last END before this, at 6:1, is that of the IF at 4:1' 'a CASE stands after the END of the DRAWING'
+helps "'CASE' cannot stand here, after ';'" 'the DRAWING at 3:1 has no END before this' 'a CASE stands after the END of the DRAWING'
 second '3 Syntax 6:1' 'DRAWING ROW;' 'b1 : BUF [0:0] ("A") -> ("X");' 'END;' 'END;'
 second '3 Syntax 6:1' 'DRAWING ROW;' 'b1 : BUF [0:0] ("A") -> ("X");' 'END;' 'b2 : BUF [0:0] ("X") -> ("Y");' 'END;'
 
@@ -274,19 +269,18 @@ helps "'<' cannot stand here, after '='" 'at most is written <='
 second '3 Syntax 4:7' 'DRAWING ROW;' 'IF 1 => 2 THEN' 'END;' 'END;'
 helps "'>' cannot stand here, after '='" 'at least is written >='
 second '3 Syntax 4:4' 'DRAWING ROW;' 'IF !(1 = 2) THEN' 'END;' 'END;'
-helps "'!' cannot stand here, after 'IF'" 'a condition is inverted by = 0, as in (A = 1) = 0'
+helps "'!' cannot stand here, after 'IF'"
 # and elsewhere
 second '3 Syntax 4:11' 'DRAWING ROW;' 'FOR I = 3 DOWNTO 0 DO' 'END;' 'END;'
-helps "'DOWNTO' cannot stand here, after '3'" 'a FOR counts upwards, by one: FOR I = 0 TO N - 1 DO'
+helps "'DOWNTO' cannot stand here, after '3'" "is TO missing after '3'?"
 # (in a range they stand for its colon)
 early '3 Syntax 4:23' 'b1 : BUF [0:0] ("A"<3 downto 0>) -> ("X");'
-helps "'downto' cannot stand here, after '3'" 'a range is written with a colon, as in "A"<3:0>'
+helps "'downto' cannot stand here, after '3'"
 early '3 Syntax 4:15' 'b1 : BUF [0:2**3] ("A") -> ("X");'
-helps "'*' cannot stand here, after '*'" 'there is no power: A * A is the square of A'
+helps "'*' cannot stand here, after '*'"
 # a - that stands elsewhere than before a name
 second '3 Syntax 5:6' 'DRAWING ROW;' 'END;' 'CASE -"SEL"=1;'
-helps "'-' cannot stand here, after 'CASE'" \
-    'a - stands once, in the parentheses of a use, right before a name'
+helps "'-' cannot stand here, after 'CASE'"
 
 # --- words of other languages that a statement begins with
 second '3 Syntax 4:5' 'DRAWING ROW;' 'reg Q;' 'END;'
@@ -301,9 +295,9 @@ helps "'1' cannot stand here, after 'WHEN'" \
     'a condition is written IF A = 1 THEN, and a case is written CASE "A"=1;'
 # a comment that begins where an arrow or a - is meant, and hides the rest of its line
 early '3 Syntax 5:1' 'b1 : BUF [0:0] ("A") --> ("X");'
-helps "'END' cannot stand here, after ')'" '--> begins a comment: is -> meant?'
+helps "'END' cannot stand here, after ')'" '-- begins a comment: is -> or a single - meant?'
 early '3 Syntax 5:1' 'b1 : BUF [0:0] (--"A") -> ("X");'
-helps "'END' cannot stand here, after '('" '-- begins a comment: a - stands once before a name'
+helps "'END' cannot stand here, after '('" '-- begins a comment: is -> or a single - meant?'
 
 # --- brackets of another kind
 early '3 Syntax 4:20' 'b1 : BUF [0:0] ("A"[0]) -> ("X");'
@@ -314,15 +308,14 @@ helps "'[' cannot stand here, after '\"X\"'" 'the delay of a WIRE has no bracket
 early '3 Syntax 4:11' 'b1 : BUF (0:5) ("A") -> ("X");'
 helps "'0' cannot stand here, after '('" 'a delay stands in [ ], the least and the greatest, as in [20:60]'
 early '3 Syntax 4:14' 'b1 : BUF [min=20, max=60] ("A") -> ("X");'
-helps "'=' cannot stand here, after 'min'" \
-    'a delay is two numbers, as in [20:60], and parameters stand in { }, as in {N=8}'
+helps "'=' cannot stand here, after 'min'"
 early '3 Syntax 4:20' 'w : MIN_PULSE_CHK (HIGH=70, LOW=120) ("A");'
 helps "'HIGH' cannot stand here, after '('" 'parameters stand in { }, as in {N=8}'
 # (a name without a value, or a value without a name)
 early '3 Syntax 4:24' 'c : SETUP_HOLD_CHK {TSU, TH} ("CK", "D");'
 helps "',' cannot stand here, after 'TSU'" 'a parameter has a name and a value, as in {SETUP=20, HOLD=5}'
 early '3 Syntax 4:17' 'a1 : AND [1:2] ({"A", "B"}) -> ("X");'
-helps "'{' cannot stand here, after '('" 'bits are joined by &, as in "A" & "B"'
+helps "'{' cannot stand here, after '('" 'the ( at 4:16 is not closed before this'
 
 # --- where one thing alone may stand
 early '3 Syntax 4:22' 'a1 : AND [0:0] ("A" !h, "B") -> ("X");'
@@ -330,7 +323,7 @@ helps "'h' cannot stand here, after '!'" 'the mark is !H'
 early '3 Syntax 4:17' 'b1 : BUF [0:0] (A) -> ("X");'
 helps "'A' cannot stand here, after '('" "a net's name stands in double quotes"
 early '3 Syntax 4:17' 'b1 : BUF [0:0] (VCC) -> ("X");'
-helps "'VCC' cannot stand here, after '('" 'a constant bit is ZERO or ONE: is ONE meant?'
+helps "'VCC' cannot stand here, after '('" 'a constant bit is ZERO or ONE'
 # (the DRAWING has no END before CASE, but what it lacks is its name)
 second '3 Syntax 3:9' 'DRAWING CASE;' 'END;'
 helps "'CASE' cannot stand here, after 'DRAWING'" \
@@ -338,11 +331,9 @@ helps "'CASE' cannot stand here, after 'DRAWING'" \
 
 # --- a statement that belongs elsewhere
 second '3 Syntax 5:1' 'DRAWING ROW;' 'END;' 'MACRO M ();' 'END;'
-helps "'MACRO' cannot stand here, after ';'" 'the last END before this, at 4:1, is that of the DRAWING at 3:1' \
-    'a MACRO stands before the DRAWING, and in no other MACRO'
+helps "'MACRO' cannot stand here, after ';'" 'a MACRO stands before the DRAWING, and in no other MACRO'
 second '3 Syntax 5:1' 'DRAWING ROW;' 'END;' 'DRAWING ROW;' 'END;'
 helps "'DRAWING' cannot stand here, after ';'" \
-    'the last END before this, at 4:1, is that of the DRAWING at 3:1' \
     'a text has one DRAWING, after its MACROs'
 text '3 Syntax 4:1' 'SCALD 2;' 'CLOCK 8 x 50;' 'PSKEW 1:1;' 'WIRE 0:5;' 'DRAWING ROW;' 'END;'
 helps "'WIRE' cannot stand here, after ';'" \
@@ -351,11 +342,11 @@ text '3 Syntax 2:1' 'SCALD 2;' 'PSKEW 1:1;' 'CLOCK 8 x 50;' 'DRAWING ROW;' 'END;
 helps "'PSKEW' cannot stand here, after ';'" \
     'a text begins with SCALD, CLOCK, WIRE, PSKEW and CSKEW, in this order; the last three may be left out'
 second '3 Syntax 3:1' 'IF 1 THEN END;' 'DRAWING ROW;' 'END;'
-helps "'IF' cannot stand here, after ';'" 'an IF stands in the body of a MACRO or of the DRAWING'
+helps "'IF' cannot stand here, after ';'"
 second '3 Syntax 3:1' 'FOR I = 0 TO 1 DO END;' 'DRAWING ROW;' 'END;'
-helps "'FOR' cannot stand here, after ';'" 'a FOR stands in the body of a MACRO or of the DRAWING'
+helps "'FOR' cannot stand here, after ';'"
 second '3 Syntax 5:1' 'DRAWING ROW;' 'IF 1 THEN ELSE' 'ELSE END;' 'END;'
-helps "'ELSE' cannot stand here, after 'ELSE'" 'an ELSE stands in an IF, once, before its END'
+helps "'ELSE' cannot stand here, after 'ELSE'"
 
 # --- header
 text '3 Syntax 2:13' 'SCALD 2;' 'CLOCK 8 x 0;;'
@@ -386,18 +377,18 @@ text '4 BadHeader 2:1' 'SCALD 1;' 'CLOCK 8 x 0;' 'DRAWING ROW;' 'WIRE "" 0:1;' '
 # named NAME [LINE]: the name is refused, and this is said
 named() {
     early '7 BadName 4:17' "b1 : BUF [0:0] (\"$1\") -> (\"X\");"
-    [ $# -eq 1 ] || helps "$2"
+    shift
+    [ $# -eq 0 ] || helps "$@"
 }
-named 'CK .P2-9' '9 is more than 8, the units of the period; one that wraps ends in a smaller unit than it begins in'
-named 'CK .P2-17'
-named 'CK .P8-3' '8 is more than 7: the units of the period count from 0'
-named 'CK .P3-3' 'an interval ends in another unit than it begins in'
-named 'CK .P02-3' 'a number has no 0 in front'
+form='an assertion is .S, .P or .C and intervals of the units 0 to 8, as in 2-3,5-6, none of them empty;'
+skew='after .P and .C there may be a skew of at most 4095 ticks, as in (2,3), and then an L'
+for name in 'CK .P2-17' 'CK .P8-3' 'CK .P3-3' 'CK .P02-3' 'CK .P2-3(4096,0)' 'A .S0-2L' 'CK .P' 'CK .P2' 'CK .P2-' \
+    'CK .P2-3(' 'CK .P2-3(1)' 'CK .P2-3(1,L)' 'CK .P2-3LL' 'CK .X2-3'; do
+    named "$name" "$form" "$skew"
+done
+named 'CK .P2-9'
 named 'CK .P20000-3'
-named 'CK .P2-3(4096,0)' '4096 is more than 4095 ticks of skew'
-named 'A .S0-2L' "after 'A .S0-2' there cannot be 'L': a comma and the next interval come here, or after .P and .C a skew like (2,3) or an L"
 named 'A .S0-2(1,1)'
-named 'CK .P' "after 'CK .P' the name cannot end: an interval like 2-3 comes here"
 named ' A' "it cannot begin with ' ': a name neither begins nor ends with a space, and has no two in a row"
 named '-CK' "it cannot begin with '-': a - that inverts stands before the quote"
 named 'A ' "after 'A ' the name cannot end: a name neither begins nor ends with a space, and has no two in a row"
@@ -406,17 +397,10 @@ named '' 'a name has a letter, a digit, _, # or $ before its assertion'
 named '/'
 named 'A-B' "after 'A' there cannot be '-': a - that inverts stands before the quote"
 named 'A.B' "after 'A' there cannot be '.': a . stands only after a space, before the S, the P or the C of an assertion"
-named 'A .SX' "after 'A .S' there cannot be 'X': an interval like 2-3 comes here"
-named 'CK .P2' "after 'CK .P2' the name cannot end: the unit in which an interval begins is followed by a - and the unit in which it ends"
-named 'CK .P2-' "after 'CK .P2-' the name cannot end: the unit in which an interval ends comes here"
-named 'CK .P2-3(' "after 'CK .P2-3(' the name cannot end: a skew is written like (2,3), in ticks"
-named 'CK .P2-3(-5,5)' "after 'CK .P2-3(' there cannot be '-': a skew is written like (2,3), in ticks"
-named 'CK .P2-3(1)'
-named 'CK .P2-3(1,L)'
+named 'A .SX' "after 'A .S' there cannot be 'X': it is in no assertion" "$form" "$skew"
+named 'CK .P2-3(-5,5)'
 named 'CK .P2-3(1,2L'
-named 'CK .P2-3(1,1)X' "after 'CK .P2-3(1,1)' there cannot be 'X': after a skew comes an L, or nothing"
-named 'CK .P2-3LL' "after 'CK .P2-3L' there cannot be 'L': nothing comes after the L"
-named 'CK .X2-3' "after 'CK .' there cannot be 'X': an assertion begins with .S, .P or .C"
+named 'CK .P2-3(1,1)X' "after 'CK .P2-3(1,1)' there cannot be 'X': it is in no assertion" "$form" "$skew"
 named "$(many 65 A)" 'a name has at most 64 bytes before its assertion'
 named 'g/HELD' "after 'g' there cannot be '/': a / stands only before a whole name: a net in a macro has no name outside it"
 named '//A'
@@ -425,8 +409,7 @@ named '//A'
     echo 'CASE "g/HELD"=0;'
 } | refused '7 BadName 6:6'
 early '20 EdgesOverlap 4:17' 'b1 : BUF [0:0] ("CK .C2-3(25,25)") -> ("X");'
-helps 'an edge of a .C clock may come earlier and later by its skew (a,b): a + b ticks have to be fewer' \
-    'than the ticks between two edges. Make the skew smaller, or use a .P clock, which moves as a whole'
+helps 'a skew (a,b) of a .C clock has a + b ticks, fewer than between two edges; a .P clock moves as a whole'
 early '20 EdgesOverlap 4:17' 'b1 : BUF [0:0] ("CK .C2-3(400,0)") -> ("X");'
 early '20 EdgesOverlap 4:17' 'b1 : BUF [0:0] ("CK .C7-1(60,60)L") -> ("X");'
 text '20 EdgesOverlap 5:17' 'SCALD 1;' 'CLOCK 8 x 50;' 'CSKEW 100:0;' 'DRAWING ROW;' 'b1 : BUF [0:0] ("CK .C0-4,5-7") -> ("X");' 'END;'
@@ -500,7 +483,7 @@ second '5 DoubleName 4:47' 'DRAWING ROW;' 'FOR I = 0 TO 1 DO a : M (); FOR J = 0
 macro unexpanded '16 TooMany 6:1' 'MACRO E {N=1} ();' 'IF N > 0 THEN' 'a : E {N=N-1} ();' 'b : E {N=N-1} ();' 'END;' 'END;' \
     'DRAWING ROW;' 't : E {N=20} ();' 'END;'
 helps 'at most 65536 bits each of nets, elements and checkers, 1048576 pins and 262144 statements are reached' \
-    "'E' is used 3 times, first at 5:1:" 'a : E {N=N-1} ();' '^'
+    "uses of 'E': 3, the first at 5:1:" 'a : E {N=N-1} ();' '^'
 # (E reaches 262142 statements with N=16, so the third of the second use is one too many)
 macro unexpanded '16 TooMany 5:1' 'MACRO E {N=1} ();' 'IF N > 0 THEN' 'a : E {N=N-1} ();' 'b : E {N=N-1} ();' 'END;' 'END;' \
     'DRAWING ROW;' 't : E {N=16} ();' 'u : E {N=16} ();' 'v : E {N=0} ();' 'END;'
@@ -520,8 +503,7 @@ helps "is BUF meant in place of 'BUFF'?"
 drawing '6 UnknownKind 4:1' "g1 : NOR [0:0] (\"A\", \"B\") -> (\"X\");"
 helps "'NOR' is drawn as OR with a - before its output"
 drawing '6 UnknownKind 4:1' 'u1 : ADDER ("A") -> ("X");'
-helps 'the kinds are BUF, AND, OR, XOR, MUX2, MUX4, MUX8, CHG, REG, REG_RS, LATCH, LATCH_RS,' \
-    'SETUP_HOLD_CHK, SETUP_RISE_HOLD_FALL_CHK and MIN_PULSE_CHK; a - before a name inverts it'
+helps 'kinds: BUF, AND, OR, XOR, MUX2, MUX4, MUX8, CHG, REG, REG_RS, LATCH, LATCH_RS, and checkers *_CHK'
 macro unexpanded '6 UnknownKind 6:1' 'MACRO ADDER ();' 'END;' 'DRAWING ROW;' 'u : ADER ();' 'END;'
 # a kind or a macro with other letters, also where the word is nearly another kind, or has a meaning elsewhere
 drawing '6 UnknownKind 4:1' 'm1 : mux4 [0:0] ("S"<0>, "S"<1>, "A", "B", "C", "D") -> ("X");'
@@ -573,8 +555,7 @@ drawing '22 UnknownName 4:1' 'c1 : SETUP_HOLD_CHK {SETUP=1, HOLD=SETUP} ("CK", "
 macro unexpanded '22 UnknownName 4:1' 'MACRO M {N=1} ("A") -> ("Z");' 'b1 : BUF [N:N+K] ("A") -> ("Z");' 'END;' 'DRAWING ROW;' \
     'u : M ("A") -> ("X");' 'END;'
 expanded '22 UnknownName 3:1' 'CONST N = M;' 'CONST M = 1;' 'DRAWING ROW;' 'END;'
-helps "'M' is no constant declared before, no parameter of the macro and no variable of a FOR around it" \
-    'a constant of this name is declared later, at 4:7'
+helps "'M' is no constant declared before, no parameter of the macro and no variable of a FOR around it"
 # the head of a macro: of its defaults those that the use does not give, and then its ranges
 expanded '22 UnknownName 7:1' 'CONST W = 2;' 'MACRO M {N=W, D=N*5} ("A"<0:N-1>) -> ("Z");' 'END;' 'DRAWING ROW;' \
     'u : M {N=3} ("A"<0:2>) -> ("X");' 'END;'
@@ -611,7 +592,7 @@ helps 'HIGH and LOW are 0 or more, and each is at most the period' 'LOW is 401, 
 drawing '14 Bounds 4:1' 'WIRE "A" 2:1;'
 helps 'WIRE "A" a:b has 0 <= a <= b <= 4095' 'the least, 2, is more than the greatest, 1: is 1:2 meant?'
 drawing '13 PinCount 4:1' 'b1 : BUF [0:0] ("A", "B") -> ("X");'
-helps 'BUF takes 1 input and 1 output, and no mark !H' 'here it has 2 inputs and 1 output'
+helps 'BUF takes 1 input and 1 output; none may have the mark !H' 'here it has 2 inputs and 1 output'
 drawing '13 PinCount 4:1' 'b1 : BUF [0:0] () -> ("X");'
 drawing '13 PinCount 4:1' 'b1 : BUF [0:0] ("A");'
 drawing '13 PinCount 4:1' 'm1 : MUX4 [0:0] ("S", "A", "B", "C", "D") -> ("X");'
@@ -619,8 +600,8 @@ drawing '13 PinCount 4:1' "a1 : AND [0:0] (\"A\"$(many 16 ', "A"')) -> (\"X\");"
 drawing '13 PinCount 4:1' 'c1 : MIN_PULSE_CHK ("A") -> ("X");'
 drawing '13 PinCount 4:1' 'b1 : BUF [0:0] ("A" !H) -> ("X");'
 macro unexpanded '15 TooDeep 4:1' 'MACRO M ("A") -> ("Z");' 'x : M ("A") -> ("Z");' 'END;' 'DRAWING ROW;' 'u : M ("A") -> ("X");' 'END;'
-helps 'at most 64 uses of macros may be inside one another, and this is one more' \
-    "'M' is used 2 times, first at 4:1:" 'x : M ("A") -> ("Z");' '^'
+helps 'at most 64 uses of macros, 64 IFs and FORs, and 64 operators, parentheses and minus signs are nested' \
+    "uses of 'M': 2, the first at 4:1:" 'x : M ("A") -> ("Z");' '^'
 macro unexpanded '11 BadRange 6:1' 'MACRO M {N=1} ("A"<0:N>);' 'END;' 'DRAWING ROW;' 'u : M {N=256} ("A");' 'END;'
 helps 'a bit is numbered 0 to 65535, a range has at most 256 bits, and a formal has those of its head'
 drawing '11 BadRange 4:1' 'b1 : BUF [0:0] ("A"<65536>) -> ("X");'
@@ -629,7 +610,7 @@ drawing '11 BadRange 4:1' 'b1 : BUF [0:0] ("A"<0:256>) -> ("X");'
 drawing '11 BadRange 4:1' 'WIRE "A"<65536> 0:0;'
 macro unexpanded '11 BadRange 4:1' 'MACRO M ("A"<1:2>) -> ("Z");' 'b1 : BUF [0:0] ("A"<0>) -> ("Z");' 'END;' 'DRAWING ROW;' \
     'u : M ("A") -> ("X");' 'END;'
-helps 'the formal "A" has the bits 1 to 2, by its head at 3:10' "'M' is used at 7:1:" \
+helps 'the formal "A" has the bits 1 to 2, by its head at 3:10' "uses of 'M': 1, the first at 7:1:" \
     'u : M ("A") -> ("X");' '^'
 drawing '8 AssertionClash 4:1' 'a1 : AND [0:0] ("A .S0-4", "A .S0-5") -> ("X");'
 helps '"A .S0-4" here, and "A .S0-5" at 4:28' 'give the assertion once, or spell it the same each time'
@@ -648,13 +629,13 @@ macro unexpanded '8 AssertionClash 4:1' 'MACRO M ("A") -> ("Z");' 'b1 : BUF [0:0
 macro unexpanded '8 AssertionClash 4:1' 'MACRO M ("A") -> ("Z");' 'b1 : BUF [0:0] ("A .S") -> ("Z");' 'END;' 'DRAWING ROW;' \
     'u : M ("A") -> ("X");' 'END;'
 helps 'a formal has the assertion of the net that is connected to it: give none in the macro' \
-    "'M' is used at 7:1:" 'u : M ("A") -> ("X");' '^'
+    "uses of 'M': 1, the first at 7:1:" 'u : M ("A") -> ("X");' '^'
 bits='a name without a range is its bit 0 alone, and a formal without one is all of its bits'
 drawing '12 Width 4:1' 'c1 : MIN_PULSE_CHK ("A"<0:255> & "B");'
-helps 'bits of the connections: 257' 'each connection is as wide as the widest, or has one bit for all' \
+helps 'bits of the connections: 257' 'each connection is as wide as the widest, or an input has one bit for all' \
     "$bits"
 drawing '12 Width 4:1' 'b1 : BUF [0:0] ("A"<0:2>) -> ("X"<0:3>);'
-helps 'bits of the connections: 3 -> 4' 'each connection is as wide as the output, or has one bit for all' \
+helps 'bits of the connections: 3 -> 4' 'each connection is as wide as the widest, or an input has one bit for all' \
     "$bits"
 drawing '12 Width 4:1' 'c1 : SETUP_HOLD_CHK ("CK"<0:1>, "D"<0:2>);'
 drawing '12 Width 4:1' 'a1 : AND [0:0] ("A"<7:4> & ZERO, "D", "E"<0:3-1>) -> (-"X"<0:3>);'
@@ -676,7 +657,7 @@ macro unexpanded '12 Width 4:1' 'MACRO M ("A"<0:2>) -> ("Z");' 'b1 : BUF [0:0] (
 expanded '11 BadRange 4:1' 'MACRO M {N=1} ("A"<0:N-1>);' 'u : M {N=N/2} ("A"<0:N/2-1>);' 'END;' 'DRAWING ROW;' 'u1 : M {N=2} ("X"<0:1>);' 'END;'
 helps 'a / rounds towards zero, so parts of a size that does not divide are not as wide as it' \
     'a bit is numbered 0 to 65535, a range has at most 256 bits, and a formal has those of its head' \
-    "'M' is used 2 times, first at 4:1:" 'u : M {N=N/2} ("A"<0:N/2-1>);' '^'
+    "uses of 'M': 2, the first at 4:1:" 'u : M {N=N/2} ("A"<0:N/2-1>);' '^'
 
 # --- two refusals in one statement: the first of the order is answered
 drawing '6 UnknownKind 4:1' 'b1 : BUFF {N=1/0} ("A", "B") -> ("X");'
@@ -774,23 +755,24 @@ cases() {
         printf '%s\n' "$@"
     } | unexpanded "$want"
 }
-only='a case sets nets that nothing drives and that assert .S or nothing; inside macros only global ones'
+only='a case sets a net once, to 0 or to 1, and only one that nothing drives and that asserts'
+also='.S or nothing; inside macros only global ones'
 cases '19 CaseNet 6:6' 'CASE "X"=0;'
-helps 'it is an output, at 4:53' "$only"
+helps 'it is an output, at 4:53' "$only" "$also"
 cases '19 CaseNet 6:6' 'CASE "NONE"=0;'
-helps "no statement of the drawing names 'NONE'" "$only"
+helps "no statement of the drawing names 'NONE'" "$only" "$also"
 cases '19 CaseNet 6:6' 'CASE "SELL"=0;'
-helps "no statement of the drawing names 'SELL': is SEL meant?" "$only"
+helps "no statement of the drawing names 'SELL': is SEL meant?" "$only" "$also"
 cases '19 CaseNet 6:6' 'CASE "SEL"<1>=0;'
 cases '19 CaseNet 6:6' 'CASE "CK"=0;'
-helps 'it is a clock, at 4:25' "$only"
+helps 'it is a clock, at 4:25' "$only" "$also"
 cases '19 CaseNet 6:6' 'CASE "PH"=0;'
 cases '19 CaseNet 6:6' 'CASE "SEL .S"=0;'
-helps 'in a CASE a name stands without its assertion' "$only"
+helps 'in a CASE a name stands without its assertion' "$only" "$also"
 cases '19 CaseNet 6:6' 'CASE "SEL"=2;'
-helps 'a net is set to 0 or to 1, and not to 2' "$only"
+helps "$only" "$also"
 cases '19 CaseNet 6:15' 'CASE "SEL"=0, "SEL"=1;'
-helps 'this CASE sets it before, at 6:6' "$only"
+helps "$only" "$also"
 cases '19 CaseNet 7:6' 'CASE "SEL"=0;' 'CASE "SEL"=2;'
 # shellcheck disable=SC2046
 cases '16 TooMany 262:1' $(many 257 'CASE"SEL"=0; ')
@@ -833,12 +815,12 @@ helps 'bits of the connections: ? -> 1' 'bits of the formals: ? -> 1' \
     'each connection is as wide as its formal; an input may have one bit for all instead' \
     'a / rounds towards zero, so parts of a size that does not divide are not as wide as it' \
     "$bits" \
-    "'T' is used 3 times, first at 5:1:" 'l : T {N=N/2} ("A"<0:N/2-1>) -> ("L");' '^'
+    "uses of 'T': 3, the first at 5:1:" 'l : T {N=N/2} ("A"<0:N/2-1>) -> ("L");' '^'
 drawing '13 PinCount 4:1' 'b1 : BUF [0:1] ("A", "B") -> ("X");'
-helps 'BUF takes 1 input and 1 output, and no mark !H' 'here it has 2 inputs and 1 output'
+helps 'BUF takes 1 input and 1 output; none may have the mark !H' 'here it has 2 inputs and 1 output'
 early '3 Syntax 4:22' 'b1 : BUF [0:1] ("A") => ("X");'
 helps "'=' cannot stand here, after ')'" 'an arrow is written ->: is -> meant?'
-named 'A .S1_3' "after 'A .S1' there cannot be '_': the unit in which an interval begins is followed by a - and the unit in which it ends"
+named 'A .S1_3' "after 'A .S1' there cannot be '_': it is in no assertion" "$form" "$skew"
 named 'A_.S1-3' "after 'A_' there cannot be '.': a . stands only after a space, before the S, the P or the C of an assertion"
 second '3 Syntax 5:1' 'MACRO M ("A") -> ("Z");' 'b1 : BUF [0:1] ("A") -> ("Z");' 'DRAWING ROW;' 'END;'
 helps "'DRAWING' cannot stand here, after ';'" 'the MACRO at 3:1 has no END before this'
@@ -854,7 +836,7 @@ helps "\"X\" is an output of 'b1' at 4:1 too:" 'b1 : BUF [5:10] ("A") -> ("X");'
 macro unexpanded '22 UnknownName 4:1' 'MACRO M {LO=1, HI=2} ("A") -> ("Z");' 'b : BUF [L0:HI] ("A") -> ("Z");' 'END;' \
     'DRAWING ROW;' 'u : M ("A") -> ("B");' 'END;'
 helps "'L0' is no constant declared before, no parameter of the macro and no variable of a FOR around it" \
-    'is LO meant?' "'M' is used at 7:1:" 'u : M ("A") -> ("B");' '^'
+    'is LO meant?' "uses of 'M': 1, the first at 7:1:" 'u : M ("A") -> ("B");' '^'
 early '3 Syntax 4:14' 'b1 : BUF [300] ("A") -> ("X");'
 helps "']' cannot stand here, after '300'" \
     'a delay has a least and a greatest: is [0:300] or [300:300] meant?'
@@ -923,18 +905,6 @@ said "$(of 1 1 'the net /Q<0> has a driver that may take no time, and goes to se
 sections 2 "$first" "b2 : BUFF [1:2] (\"/Q .S2-8\") -> (\"X\");$end"
 said "$(of 2 7 'places count from there')" "scald: 4:1: $(sentence UnknownKind)" \
     '    b2 : BUFF [1:2] ("/Q .S2-8") -> ("X");' '    ^' "    is BUF meant in place of 'BUFF'?"
-# nearly LINE COLUMN: of two sections with this line between them, that it is nearly the right one, marked there
-nearly() {
-    sections 9 "$first" "$second$end" "$1"
-    said 'scald: there should be 2 to 64 sections, with a line ===== between them' \
-        '    line 6 is nearly one between two sections, which has exactly 5 = and nothing else:' \
-        "    $(printf %s "$1" | tr '\t\r' '  ')" \
-        "    $(printf "%$(($2 - 1))s" '')^"
-}
-nearly '===== ' 6
-nearly '====' 5
-nearly '======' 6
-nearly ' =====' 1
 sections 9 "$first" "$second$end" '=='
 said 'scald: there should be 2 to 64 sections, with a line ===== between them'
 sections 2 "$first" "$second$end

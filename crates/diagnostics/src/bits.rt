@@ -2,15 +2,13 @@
 
 use crate::lines::Lines;
 use crate::lines::Part::Number;
-use crate::statement::Span;
+use crate::statement::{MOST_TOKENS, Span};
 use crate::text::Text;
 use crate::uses::add_over;
 use element_kinds::{Kind, kind_named};
 
-/// The most connections whose widths are told, and the most names that are looked at.
+/// The most connections whose widths are shown.
 const MOST: usize = 16;
-
-const MOST_TOKENS: usize = 256;
 
 /// The last bit that a name may have, and the most bits of a range.
 const LAST_BIT: u64 = 65535;
@@ -73,9 +71,7 @@ fn add_rule(out: &mut Lines, kind: Option<Kind>) {
             b"each connection is as wide as its formal; an input may have one bit for all instead",
         Some(Kind::Chg) =>
             b"the inputs of a CHG have any widths, and a connection has at most 256 bits",
-        Some(kind) if kind.has_output() =>
-            b"each connection is as wide as the output, or has one bit for all",
-        Some(_) => b"each connection is as wide as the widest, or has one bit for all",
+        Some(_) => b"each connection is as wide as the widest, or an input has one bit for all",
     });
 }
 

@@ -26,11 +26,12 @@ enum Next {
     Number(Bounds),
 }
 
-const ROUNDS: Bounds = Bounds(b"N", 1, 10_000_000);
-
-const ROWS: Bounds = Bounds(b"N", 1, 65_536);
-
-const CASES: Bounds = Bounds(b"K", 1, 256);
+/// The numbers that stand behind a word.
+const NUMBERED: [(&[u8], Bounds); 3] = [
+    (b"rounds=", Bounds(b"N", 1, 10_000_000)),
+    (b"worst=", Bounds(b"N", 1, 65_536)),
+    (b"case=", Bounds(b"K", 1, 256)),
+];
 
 const SEEDS: Bounds = Bounds(b"SEED", 0, u64::MAX);
 
@@ -82,21 +83,6 @@ fn key_of(word: &[u8]) -> &[u8] {
     part(word, 0, end)
 }
 
-/// Where a word stands that has no place here.
-fn add_elsewhere(out: &mut Lines, word: &[u8]) {
-    if word.starts_with(b"rounds=") {
-        out.put(b": it stands once, and last, after verify, slack or explain");
-    } else if word == b"waves".as_slice() || word == b"faults".as_slice() {
-        out.put(b": it stands once, after verify; rounds=N comes last");
-    } else if word.starts_with(b"worst=") {
-        out.put(b": it stands once, after slack or explain; rounds=N comes last");
-    } else if word.starts_with(b"case=") {
-        out.put(b": it stands after run T SEED");
-    } else if word.contains(&b'.') || word.contains(&b'/') {
-        out.put(b": a drawing is read from standard input, as in scald verify <FILE");
-    }
-}
-
 /// Which numbers there may be.
 fn add_bounds(out: &mut Lines, bounds: Bounds) {
     let Bounds(name, least, most) = bounds;
@@ -106,23 +92,22 @@ fn add_bounds(out: &mut Lines, bounds: Bounds) {
     );
 }
 
-/// The word that is meant, the bounds of its number, or where this one stands.
+/// The word that is meant, the bounds of its number, or how a file is read.
 fn add_meant(out: &mut Lines, words: &[&'static [u8]], word: &[u8]) {
     for meant in words {
-        if is_near(key_of(word), key_of(meant)) && word != *meant {
-            if word.starts_with(b"rounds=") {
-                add_bounds(out, ROUNDS);
-            } else if word.starts_with(b"worst=") {
-                add_bounds(out, ROWS);
-            } else if word.starts_with(b"case=") {
-                add_bounds(out, CASES);
-            } else {
-                out.fill(b": is % meant?", &[Shown(meant)]);
-            }
-            return;
+        if !is_near(key_of(word), key_of(meant)) || word == *meant {
+            continue;
         }
+        for (front, bounds) in &NUMBERED {
+            if word.starts_with(front) {
+                return add_bounds(out, *bounds);
+            }
+        }
+        return out.fill(b": is % meant?", &[Shown(meant)]);
     }
-    add_elsewhere(out, word);
+    if word.contains(&b'.') || word.contains(&b'/') {
+        out.put(b": a drawing is read from standard input, as in scald verify <FILE");
+    }
 }
 
 /// What is wrong with the word of this number, from 0, where no form begins with the words up to it: it is

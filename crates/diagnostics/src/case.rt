@@ -2,31 +2,9 @@
 
 use crate::first::is_asserting;
 use crate::lines::Lines;
-use crate::lines::Part::{Number, Quoted, Shown};
+use crate::lines::Part::{Quoted, Shown};
 use crate::near::is_near;
 use crate::text::Text;
-
-/// The bit of an entry, and the token after it.
-fn bit_of(text: &Text, i: usize) -> (u64, usize) {
-    let next = i.saturating_add(1);
-    let digits = next.saturating_add(1);
-    if text.symbol(next) == b'<' {
-        (text.number(digits).unwrap_or(0), digits.saturating_add(2))
-    } else {
-        (0, next)
-    }
-}
-
-/// The entry of the same bit before this one in the same CASE.
-fn before(text: &Text, i: usize) -> Option<usize> {
-    for j in text.start_of(i)..i {
-        let is_same = text.is_name(j) && text.base(j) == text.base(i);
-        if is_same && bit_of(text, j).0 == bit_of(text, i).0 {
-            return Some(j);
-        }
-    }
-    None
-}
 
 /// Whether a name asserts a clock.
 fn is_clock(text: &Text, i: usize) -> bool {
@@ -76,19 +54,13 @@ fn add_site(out: &mut Lines, text: &Text, i: usize) {
 
 /// Why a case may not set a net so.
 pub fn add_entry(out: &mut Lines, text: &Text, i: usize) {
-    let equals = bit_of(text, i).1;
-    let value = text.number(equals.saturating_add(1)).unwrap_or(0);
     if is_asserting(text, i) {
         out.note(b"in a CASE a name stands without its assertion");
-    } else if 1 < value {
-        out.tell(b"a net is set to 0 or to 1, and not to %", &[Number(value)]);
-    } else if let Some(other) = before(text, i) {
-        let place = text.at(other);
-        out.tell(b"this CASE sets it before, at %", &[place]);
     } else {
         add_site(out, text, i);
     }
     out.note(
-        b"a case sets nets that nothing drives and that assert .S or nothing; inside macros only global ones",
+        b"a case sets a net once, to 0 or to 1, and only one that nothing drives and that asserts",
     );
+    out.note(b".S or nothing; inside macros only global ones");
 }

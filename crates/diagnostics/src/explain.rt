@@ -7,7 +7,7 @@ use crate::header::add_header;
 use crate::known::add_unknown_name;
 use crate::lines::Lines;
 use crate::lines::Part::{At, Number, Quoted, Shown};
-use crate::naming::{add_name, add_overlap};
+use crate::naming::add_name;
 use crate::sentence::sentence;
 use crate::syntax::add_syntax;
 use crate::text::{Text, tokens_of};
@@ -46,12 +46,13 @@ pub fn explain_refusal(alloc: Global, bytes: &[u8], refusal: Refusal) -> Lines {
 /// What may help with a refusal of this kind at a token.
 fn add_help(out: &mut Lines, text: &Text, kind: RefusalKind, i: usize) {
     match kind {
-        RefusalKind::BadByte | RefusalKind::BadToken => {}
         RefusalKind::Syntax => add_syntax(out, text, i),
         RefusalKind::BadHeader => add_header(out, text, i),
         RefusalKind::DoubleName => add_double(out, text, i),
         RefusalKind::BadName => add_name(out, text, i),
-        RefusalKind::EdgesOverlap => add_overlap(out),
+        RefusalKind::EdgesOverlap => out.note(
+            b"a skew (a,b) of a .C clock has a + b ticks, fewer than between two edges; a .P clock moves as a whole",
+        ),
         RefusalKind::CaseNet => add_entry(out, text, i),
         _ => {
             add_expanded(out, text, kind, i);
@@ -73,7 +74,9 @@ fn add_expanded(out: &mut Lines, text: &Text, kind: RefusalKind, i: usize) {
         RefusalKind::Width => add_width(out, text, i),
         RefusalKind::PinCount => add_connections(out, text, i),
         RefusalKind::Bounds => add_bounds(out, text, i),
-        RefusalKind::TooDeep => add_nested(out, text, i),
+        RefusalKind::TooDeep => out.note(
+            b"at most 64 uses of macros, 64 IFs and FORs, and 64 operators, parentheses and minus signs are nested",
+        ),
         RefusalKind::TooMany if text.is(i, b"CASE") => {
             out.note(b"a drawing has at most 256 cases, and this is one more")
         }
@@ -87,19 +90,6 @@ fn add_expanded(out: &mut Lines, text: &Text, kind: RefusalKind, i: usize) {
         RefusalKind::ZeroDivisor => out.note(b"what stands after a / has the value 0 here"),
         RefusalKind::UnknownName => add_unknown_name(out, text, i),
         _ => {}
-    }
-}
-
-/// What is nested too deep at a token.
-fn add_nested(out: &mut Lines, text: &Text, i: usize) {
-    if text.symbol(i.saturating_add(1)) == b':' {
-        out.note(b"at most 64 uses of macros may be inside one another, and this is one more");
-    } else if text.is_word(i) {
-        out.note(b"at most 64 IFs and FORs may be inside one another, and this is one more");
-    } else {
-        out.note(
-            b"an expression has at most 64 operators, and at most 64 parentheses and minus signs are open at once",
-        );
     }
 }
 
@@ -126,15 +116,11 @@ pub fn add_uses(out: &mut Lines, text: &Text, i: usize) {
             count = count.saturating_add(1);
         }
     }
-    let place = text.place(first.saturating_sub(2));
-    let parts = [Quoted(name), At(place)];
-    match count {
-        0 => return,
-        1 => out.tell(b"% is used at %:", &parts),
-        _ => {
-            let parts = [Quoted(name), Number(count), At(place)];
-            out.tell(b"% is used % times, first at %:", &parts);
-        }
+    if count == 0 {
+        return;
     }
+    let place = text.place(first.saturating_sub(2));
+    let parts = [Quoted(name), Number(count), At(place)];
+    out.tell(b"uses of %: %, the first at %:", &parts);
     out.mark(text.bytes, place);
 }

@@ -2,12 +2,9 @@
 
 use crate::lines::Lines;
 use crate::lines::Part::At;
-use crate::statement::Span;
+use crate::statement::{MOST_TOKENS, Span};
 use crate::text::Text;
 use element_kinds::is_kind_name;
-
-/// The most tokens of a statement that are looked at.
-const MOST: usize = 64;
 
 /// Whether the name of a constant or a macro is declared at a token.
 fn is_defined(text: &Text, i: usize) -> bool {
@@ -69,7 +66,7 @@ fn clash_of(text: &Text, i: usize) -> Option<usize> {
 pub fn add_clash(out: &mut Lines, text: &Text, start: usize) {
     let end = text.end_of(start);
     let head = text.macro_head(start);
-    for i in start..end.min(start.saturating_add(MOST)) {
+    for i in start..end.min(start.saturating_add(MOST_TOKENS)) {
         if !is_asserting(text, i) {
             continue;
         }
@@ -130,7 +127,7 @@ fn driver_of(text: &Text, i: usize, start: usize) -> Option<usize> {
 /// Which other statement has an output of the refused one too.
 pub fn add_drivers(out: &mut Lines, text: &Text, start: usize) {
     let outputs = text.use_at(start).outputs;
-    for i in outputs.from..outputs.to.min(outputs.from.saturating_add(MOST)) {
+    for i in outputs.from..outputs.to.min(outputs.from.saturating_add(MOST_TOKENS)) {
         if text.is_any(i, &[b"ZERO", b"ONE"]) {
             return out.note(b"an output cannot be ZERO or ONE");
         }

@@ -5,14 +5,12 @@ use crate::near::Row;
 use crate::text::Text;
 
 /// What is said of words of other languages that a statement begins with.
-pub const STATEMENTS: [Row; 8] = [
+pub const STATEMENTS: [Row; 6] = [
     (&[b"ASSIGN"], LABEL),
     (&[b"INPUT", b"OUTPUT", b"SIGNAL", b"NET"], NET),
     (&[b"REG", b"LOGIC", b"TRI"], NET),
     (&[b"MODULE", b"ENTITY", b"COMPONENT"], MODULE),
     (&[b"BEGIN", b"GENERATE", b"ENDIF", b"ENDFOR"], END),
-    (&[b"ENDMODULE", b"ENDGENERATE"], END),
-    (&[b"ELSIF", b"ELSEIF", b"ELIF"], OTHERWISE),
     (&[b"WHEN", b"SWITCH"], WHEN),
 ];
 
@@ -25,37 +23,23 @@ const MODULE: &[u8] = b"a module is a MACRO here, and the top one is the DRAWING
 
 const END: &[u8] = b"IF, FOR, MACRO and DRAWING have no BEGIN, and end with END;";
 
-const OTHERWISE: &[u8] =
-    b"after ELSE comes another IF with an END of its own: ELSE IF .. THEN .. END; END;";
-
 const WHEN: &[u8] = b"a condition is written IF A = 1 THEN, and a case is written CASE \"A\"=1;";
 
-/// What is said of two signs that other languages write as one operator, where the second is refused.
+/// What is said of two signs that other languages write as one, of which one is refused.
 const OPERATORS: [(u8, u8, &[u8]); 7] = [
     (b'=', b'=', b"equal is written ="),
+    (b':', b'=', b"equal is written ="),
     (b'<', b'>', b"not equal is written !="),
-    (b'/', b'=', b"not equal is written !="),
     (b'=', b'<', b"at most is written <="),
     (b'=', b'>', b"at least is written >="),
-    (b'*', b'*', b"there is no power: A * A is the square of A"),
-    (
-        b'<',
-        b':',
-        b"is a number missing before the : of the range?",
-    ),
-];
-
-/// The same, where the first is refused.
-const BEGUN: [(u8, u8, &[u8]); 3] = [
-    (b':', b'=', b"equal is written ="),
     (b'/', b'/', b"a comment begins with --"),
     (b'/', b'*', b"a comment begins with --"),
 ];
 
-/// What a table says of a token and the one after it.
-fn signs_note(text: &Text, i: usize, table: &[(u8, u8, &'static [u8])]) -> Option<&'static [u8]> {
+/// What is said of a token and the one after it.
+fn signs_note(text: &Text, i: usize) -> Option<&'static [u8]> {
     let [this, next] = [text.symbol(i), text.symbol(i.saturating_add(1))];
-    for (first, second, note) in table {
+    for (first, second, note) in &OPERATORS {
         if this == *first && next == *second {
             return Some(note);
         }
@@ -66,7 +50,7 @@ fn signs_note(text: &Text, i: usize, table: &[(u8, u8, &'static [u8])]) -> Optio
 /// On a sign of another language at a token; whether there is one.
 pub fn add_operator(out: &mut Lines, text: &Text, i: usize) -> bool {
     let before = i.saturating_sub(1);
-    let note = signs_note(text, before, &OPERATORS).or(signs_note(text, i, &BEGUN));
+    let note = signs_note(text, before).or(signs_note(text, i));
     let is_arrow = text.symbol(i) == b'=' && text.symbol(i.saturating_add(1)) == b'>';
     if is_arrow && (text.symbol(before) == b')' || text.is_name(before)) {
         out.note(b"an arrow is written ->: is -> meant?");

@@ -3,13 +3,8 @@
 use crate::lines::Lines;
 use crate::lines::Part::Quoted;
 use crate::near::Likeness;
+use crate::statement::MOST_TOKENS;
 use crate::text::Text;
-
-/// The most words of a statement that are looked up.
-const MOST: usize = 64;
-
-/// The most statements that a statement is inside of.
-const DEEPEST: usize = 65;
 
 /// Words of the grammar that may stand among names of expressions.
 const NO_NAMES: [&[u8]; 8] = [
@@ -36,7 +31,7 @@ fn known(text: &Text, start: usize, likeness: Likeness, word: &[u8]) -> Option<u
         }
     }
     let mut inner = start;
-    for _level in 0..DEEPEST {
+    for _level in 0..MOST_TOKENS {
         inner = text.open_before(inner)?;
         let name = inner.saturating_add(1);
         if text.is(inner, b"FOR") && likeness.holds(word, text.word(name)) {
@@ -55,12 +50,6 @@ fn add_unknown(out: &mut Lines, text: &Text, start: usize, word: &[u8]) {
     if let Some(meant) = known(text, start, Likeness::Edit, word) {
         out.tell(b"is % meant?", &[text.shown(meant)]);
     }
-    for i in start..text.tokens.len() {
-        if text.is(i, word) && text.is(i.saturating_sub(1), b"CONST") {
-            let place = text.at(i);
-            return out.tell(b"a constant of this name is declared later, at %", &[place]);
-        }
-    }
 }
 
 /// Which name of a statement is not known there.
@@ -74,7 +63,7 @@ pub fn add_unknown_name(out: &mut Lines, text: &Text, start: usize) {
         3
     };
     let from = start.saturating_add(skipped);
-    for i in from..from.saturating_add(MOST) {
+    for i in from..from.saturating_add(MOST_TOKENS) {
         if text.ends_statement(i) {
             break;
         }

@@ -1,13 +1,9 @@
-//! What is said of a section of a text, and of a line that is nearly one between two sections.
+//! What is said of a section of a text, and of nets that nothing determines.
 
 use crate::lines::Lines;
 use crate::lines::Part::Number;
-use crate::text::{line_of, part};
-use scald_base::Place;
+use crate::text::part;
 use std::alloc::Global;
-
-/// The fewest signs of a line that is taken for one between sections.
-const FEWEST: usize = 3;
 
 /// How many lines end in these bytes.
 pub fn newlines(bytes: &[u8]) -> usize {
@@ -39,41 +35,6 @@ pub fn explain_section(
         out.note(
             b"nothing stands in it: a line ===== stands between two sections, and not before or after all",
         );
-    }
-    out
-}
-
-/// How many signs a line begins with, without its end, where it is nearly one between sections.
-fn nearly(line: &[u8]) -> Option<usize> {
-    let mut signs: usize = 0;
-    for byte in line {
-        match *byte {
-            b'=' => signs = signs.saturating_add(1),
-            b' ' | b'\t' | b'\r' => {}
-            _ => return None,
-        }
-    }
-    if signs < FEWEST || line == b"=====".as_slice() {
-        return None;
-    }
-    Some(line.iter().take_while(|byte| **byte == b'=').count())
-}
-
-/// The first line of a text that is nearly one between two sections; nothing where there is none.
-pub fn explain_separator(alloc: Global, text: &[u8]) -> Lines {
-    let mut out = Lines::new(alloc);
-    let mut line: u32 = 0;
-    for bytes in text.split(|byte| *byte == b'\n') {
-        line = line.saturating_add(1);
-        if let Some(signs) = nearly(bytes) {
-            out.tell(
-                b"line % is nearly one between two sections, which has exactly 5 = and nothing else:",
-                &[Number(u64::from(line))],
-            );
-            let col = (signs.min(5) as u32).saturating_add(1);
-            out.mark(text, Place { line, col });
-            return out;
-        }
     }
     out
 }

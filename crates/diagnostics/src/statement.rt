@@ -3,6 +3,9 @@
 use crate::text::Text;
 use scald_lex::TokenKind;
 
+/// The most tokens of a statement that are looked at.
+pub const MOST_TOKENS: usize = 256;
+
 /// The tokens from one number up to another.
 #[derive(Clone, Copy)]
 pub struct Span {

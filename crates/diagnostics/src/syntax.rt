@@ -3,7 +3,7 @@
 use crate::foreign::{JOINED, LABEL, STATEMENTS, add_operator};
 use crate::lines::Lines;
 use crate::lines::Part::{Number, Quoted, Shown};
-use crate::near::{Row, is_one_of, is_same, nearest, noted};
+use crate::near::{is_one_of, is_same, nearest, noted};
 use crate::text::{Text, after};
 use element_kinds::is_kind_name;
 use scald_lex::TokenKind;
@@ -20,10 +20,9 @@ const WORDS: [&[u8]; 16] = [
     b"IF", b"THEN", b"ELSE", b"END", b"FOR", b"TO", b"DO",
 ];
 
-/// How constants of other languages are written.
-const CONSTANTS: [Row; 2] = [
-    (&[b"VCC", b"VDD", b"TRUE", b"ONE"], b"ONE"),
-    (&[b"GND", b"VSS", b"FALSE", b"ZERO"], b"ZERO"),
+/// How constant bits are called in other languages.
+const CONSTANTS: [&[u8]; 8] = [
+    b"VCC", b"VDD", b"TRUE", b"ONE", b"GND", b"VSS", b"FALSE", b"ZERO",
 ];
 
 /// What is said of constants and FORs.
@@ -89,60 +88,26 @@ fn is_old(text: &Text) -> bool {
     text.number(1) != Some(2)
 }
 
-/// Whether one of the tokens from one number up to another is written so.
-fn has(text: &Text, from: usize, to: usize, word: &[u8]) -> bool {
-    for j in from..to {
-        if text.is(j, word) {
-            return true;
-        }
-    }
-    false
-}
-
 /// On a comment that hides what follows the token before.
 fn add_hidden(out: &mut Lines, text: &Text, before: usize) -> bool {
     let rest = after(text.bytes, text.token(before).end as usize);
     let blanks = rest.iter().take_while(|byte| **byte == b' ').count();
     let rest = after(rest, blanks);
-    if rest.starts_with(b"-->") {
-        out.note(b"--> begins a comment: is -> meant?");
-    } else if rest.starts_with(b"--\"") {
-        out.note(b"-- begins a comment: a - stands once before a name");
-    } else {
-        return false;
+    let is_hidden = rest.starts_with(b"-->") || rest.starts_with(b"--\"");
+    if is_hidden {
+        out.note(b"-- begins a comment: is -> or a single - meant?");
     }
-    true
+    is_hidden
 }
 
-/// The statement that the last END before a token ends.
-fn add_last_end(out: &mut Lines, text: &Text, i: usize) {
-    for end in (0..i).rev() {
-        if text.is(end, b"END") {
-            if let Some(open) = text.open_before(end) {
-                let [end, at] = [text.at(end), text.at(open)];
-                out.tell(
-                    b"the last END before this, at %, is that of the % at %",
-                    &[end, text.shown(open), at],
-                );
-            }
-            return;
-        }
-    }
-}
-
-/// On an END that is missing before a token, or that has ended all before it; whether one is missing.
+/// On an END that is missing before a token; whether one is.
 fn add_ends(out: &mut Lines, text: &Text, i: usize) -> bool {
     let is_outer = text.is_head(i) || text.is_any(i, &[b"CASE", b""]);
     match text.open_before(i) {
         Some(open) if is_outer => {
             let opened = [text.shown(open), text.at(open)];
             out.tell(b"the % at % has no END before this", &opened);
-            add_last_end(out, text, i);
             true
-        }
-        None if begins_statement(text, i) => {
-            add_last_end(out, text, i);
-            false
         }
         _ => false,
     }
@@ -156,7 +121,7 @@ fn wanted_word(text: &Text, i: usize, start: usize) -> Option<&'static [u8]> {
         Some(b"THEN")
     } else if !text.is(start, b"FOR") || !text.opens(start) || is_old(text) {
         None
-    } else if has(text, start, i, b"TO") {
+    } else if (start..i).any(|j| text.is(j, b"TO")) {
         Some(b"DO")
     } else {
         Some(b"TO")
@@ -170,13 +135,8 @@ fn add_head(out: &mut Lines, text: &Text, i: usize, start: usize) -> bool {
     };
     let word = text.word(i);
     let before = i.saturating_sub(1);
-    let is_unset = text.is(start, b"FOR") && !has(text, start, i, b"=");
-    if is_same(text.word(before), b"NOT") || text.symbol(i) == b'!' {
-        out.note(b"a condition is inverted by = 0, as in (A = 1) = 0");
-    } else if is_one_of(&[b"AND", b"OR"], word) {
+    if is_one_of(&[b"AND", b"OR"], word) {
         out.note(JOINED);
-    } else if is_unset || is_same(word, b"DOWNTO") {
-        out.note(b"a FOR counts upwards, by one: FOR I = 0 TO N - 1 DO");
     } else if !ends_operand(text, before) || !text.is_word(i) && text.number(i).is_none() {
         return false;
     } else {
@@ -190,7 +150,6 @@ fn add_delay(out: &mut Lines, text: &Text, i: usize) -> bool {
     let before = i.saturating_sub(1);
     let last = before.saturating_sub(1);
     let is_alone = matches!(text.symbol(last), b'[' | b',');
-    let word = text.word(i);
     let Some(number) = text.number(before) else {
         return false;
     };
@@ -200,10 +159,6 @@ fn add_delay(out: &mut Lines, text: &Text, i: usize) -> bool {
             b"a delay has a least and a greatest: is [0:%] or [%:%] meant?",
             &[number, number, number],
         );
-    } else if is_same(word, b"x") {
-        add_meant(out, b"x");
-    } else if word.starts_with(b"x") && text.is(last, b"CLOCK") {
-        out.note(b"is a space missing after the x?");
     } else if text.is_word(i) && text.token(i).start == text.token(before).end {
         out.note(b"a number has no unit: delays and limits are so many ticks");
     } else {
@@ -215,32 +170,23 @@ fn add_delay(out: &mut Lines, text: &Text, i: usize) -> bool {
 /// On a bracket that something else stands in.
 fn add_bracket(out: &mut Lines, text: &Text, i: usize) -> bool {
     let before = i.saturating_sub(1);
-    let last = before.saturating_sub(1);
     let [this, next] = [text.symbol(i), text.symbol(i.saturating_add(1))];
-    let [left, farther] = [text.symbol(before), text.symbol(last)];
+    let left = text.symbol(before);
     let [is_name, follows_name] = [text.is_name(i), text.is_name(before)];
     let follows_word = text.is_word(before);
     let open = text.bracket_before(i).unwrap_or(0);
-    let note: &[u8] = if this == b'[' && text.is(last, b"WIRE") {
+    let note: &[u8] = if this == b'[' && text.is(before.saturating_sub(1), b"WIRE") {
         b"the delay of a WIRE has no brackets, as in WIRE \"A\" 3:8;"
-    } else if is_one_of(&[b"TO", b"DOWNTO"], text.word(i)) {
-        b"a range is written with a colon, as in \"A\"<3:0>"
     } else if follows_name && matches!(this, b'[' | b'(' | b'>') {
         b"a range stands in < > after the name, as in \"A\"<3:0>: is < meant?"
     } else if matches!(left, b'(' | b'{') && next == b':' {
         b"a delay stands in [ ], the least and the greatest, as in [20:60]"
     } else if left == b'(' && next == b'=' {
         b"parameters stand in { }, as in {N=8}"
-    } else if this == b'=' && farther == b'[' {
-        b"a delay is two numbers, as in [20:60], and parameters stand in { }, as in {N=8}"
     } else if this == b'[' && !follows_word || is_name && text.is_arrow(before) {
         b"connections stand in ( )"
-    } else if this == b'{' && matches!(left, b'(' | b',') {
-        b"bits are joined by &, as in \"A\" & \"B\""
     } else if is_name && follows_name {
         b"is , or & missing between the names?"
-    } else if this == b'-' {
-        b"a - stands once, in the parentheses of a use, right before a name"
     } else if text.symbol(open) == b'{' && follows_word && matches!(this, b',' | b'}') {
         b"a parameter has a name and a value, as in {SETUP=20, HOLD=5}"
     } else {
@@ -255,7 +201,6 @@ fn add_net(out: &mut Lines, text: &Text, i: usize) -> bool {
     let before = i.saturating_sub(1);
     let is_listed = matches!(text.symbol(before), b'(' | b',' | b'&' | b'-');
     let is_not = matches!(text.symbol(i), b'!' | b'/') || is_same(text.word(i), b"NOT");
-    let constant = noted(&CONSTANTS, text.word(i));
     if !is_listed && !text.is(before, b"CASE") {
         return false;
     }
@@ -263,12 +208,7 @@ fn add_net(out: &mut Lines, text: &Text, i: usize) -> bool {
         out.note(
             b"a - before a name inverts it; a ! stands only after a connection, in the mark !H",
         );
-    } else if let Some(constant) = constant {
-        out.tell(
-            b"a constant bit is ZERO or ONE: is % meant?",
-            &[Shown(constant)],
-        );
-    } else if text.number(i).is_some() {
+    } else if text.number(i).is_some() || is_one_of(&CONSTANTS, text.word(i)) {
         out.note(b"a constant bit is ZERO or ONE");
     } else if text.is_word(i) {
         out.note(b"a net's name stands in double quotes");
@@ -336,9 +276,6 @@ fn place_note(word: &[u8]) -> Option<&'static [u8]> {
         b"MACRO" => b"a MACRO stands before the DRAWING, and in no other MACRO",
         b"DRAWING" => b"a text has one DRAWING, after its MACROs",
         b"CASE" => b"a CASE stands after the END of the DRAWING",
-        b"IF" => b"an IF stands in the body of a MACRO or of the DRAWING",
-        b"FOR" => b"a FOR stands in the body of a MACRO or of the DRAWING",
-        b"ELSE" => b"an ELSE stands in an IF, once, before its END",
         _ => return noted(&STATEMENTS, word),
     })
 }
@@ -349,15 +286,13 @@ fn add_word(out: &mut Lines, text: &Text, i: usize, start: usize) {
     let before = i.saturating_sub(1);
     if text.symbol(before) == b'!' {
         out.note(b"the mark is !H");
-    } else if text.symbol(i) == b';' && text.symbol(before) == b';' {
-        out.note(b"is this ; one too many?");
     } else if text.is(i, b"CONST") && is_old(text) {
         out.note(VERSION);
     } else if let (Some(note), true) = (place_note(word), i == start) {
         out.note(note);
     } else if i != start && text.is_any(i, &RESERVED) {
         add_reserved(out, word);
-    } else if let (Some(meant), true) = (nearest(&WORDS, word), text.is_word(i)) {
+    } else if let (Some(meant), false) = (nearest(&WORDS, word), text.is_any(i, &WORDS)) {
         add_meant(out, meant);
     }
 }

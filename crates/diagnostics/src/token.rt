@@ -26,12 +26,6 @@ pub fn add_byte(out: &mut Lines, text: &[u8], place: Place) {
     }
 }
 
-/// Whether an odd number of quotes stand from the place on, and no comment may begin among them.
-fn lacks_quote(rest: &[u8]) -> bool {
-    let quotes = rest.iter().filter(|byte| **byte == b'"').count();
-    quotes % 2 == 1 && !rest.windows(2).any(|two| two == b"--".as_slice())
-}
-
 /// What is said of a point, by the bytes after it.
 fn point_note(rest: &[u8]) -> &'static [u8] {
     match rest {
@@ -60,9 +54,5 @@ fn token_note(rest: &[u8]) -> &'static [u8] {
 
 /// Why no token begins at the place.
 pub fn add_token(out: &mut Lines, text: &[u8], place: Place) {
-    let rest = line_from(text, place);
-    out.note(token_note(rest));
-    if lacks_quote(rest) {
-        out.note(b"or a quote is missing before this on its line");
-    }
+    out.note(token_note(line_from(text, place)));
 }

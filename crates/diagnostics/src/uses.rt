@@ -2,8 +2,8 @@
 
 use crate::lines::Part::{Number, Quoted, Shown};
 use crate::lines::{Lines, Part};
-use crate::near::{Likeness, Row, noted};
-use crate::statement::{Span, Use};
+use crate::near::{Likeness, Row, is_near, noted};
+use crate::statement::{MOST_TOKENS, Span, Use};
 use crate::text::Text;
 use element_kinds::{Check, KINDS, Kind, kind_named};
 
@@ -27,13 +27,10 @@ pub const MOST_DELAY: u64 = 4095;
 
 const MOST_OF_TWO: u64 = 255;
 
-/// The most tokens of the parameters of a use that are looked at.
-const MOST_GIVEN: usize = 256;
-
 /// The first kind that a word is like.
-fn kind_like(likeness: Likeness, word: &[u8]) -> Option<Kind> {
+fn kind_like(word: &[u8]) -> Option<Kind> {
     for kind in KINDS {
-        if likeness.holds(word, kind.name()) {
+        if is_near(word, kind.name()) {
             return Some(kind);
         }
     }
@@ -41,9 +38,9 @@ fn kind_like(likeness: Likeness, word: &[u8]) -> Option<Kind> {
 }
 
 /// The first macro that a word is like: the number of its name.
-fn macro_like(text: &Text, likeness: Likeness, word: &[u8]) -> Option<usize> {
+fn macro_like(text: &Text, word: &[u8]) -> Option<usize> {
     for i in 1..text.tokens.len() {
-        if text.is(i - 1, b"MACRO") && likeness.holds(word, text.word(i)) {
+        if text.is(i - 1, b"MACRO") && is_near(word, text.word(i)) {
             return Some(i);
         }
     }
@@ -58,21 +55,15 @@ fn add_meant(out: &mut Lines, name: &[u8], word: &[u8]) {
 /// That there is no kind and no macro of this name.
 pub fn add_unknown_kind(out: &mut Lines, text: &Text, label: usize) {
     let word = text.word(label.saturating_add(2));
-    let defined = macro_like(text, Likeness::Case, word);
-    if let Some(kind) = kind_like(Likeness::Case, word) {
-        add_meant(out, kind.name(), word);
-    } else if let Some(name) = defined.or(macro_like(text, Likeness::Edit, word)) {
+    if let Some(name) = macro_like(text, word) {
         add_meant(out, text.word(name), word);
     } else if let Some(way) = noted(&DRAWN, word) {
         out.tell(b"% is drawn as %", &[Quoted(word), Shown(way)]);
-    } else if let Some(kind) = kind_like(Likeness::Edit, word) {
+    } else if let Some(kind) = kind_like(word) {
         add_meant(out, kind.name(), word);
     } else {
         out.note(
-            b"the kinds are BUF, AND, OR, XOR, MUX2, MUX4, MUX8, CHG, REG, REG_RS, LATCH, LATCH_RS,",
-        );
-        out.note(
-            b"SETUP_HOLD_CHK, SETUP_RISE_HOLD_FALL_CHK and MIN_PULSE_CHK; a - before a name inverts it",
+            b"kinds: BUF, AND, OR, XOR, MUX2, MUX4, MUX8, CHG, REG, REG_RS, LATCH, LATCH_RS, and checkers *_CHK",
         );
     }
 }
@@ -253,7 +244,7 @@ pub fn add_parameter(out: &mut Lines, text: &Text, label: usize) {
         return;
     };
     let Span { from, to } = used.given;
-    for j in from..to.min(from.saturating_add(MOST_GIVEN)) {
+    for j in from..to.min(from.saturating_add(MOST_TOKENS)) {
         let word = text.word(j);
         if !text.is_given(j) {
             continue;
@@ -281,16 +272,13 @@ fn add_wanted(out: &mut Lines, kind: Kind) {
         out.fill(b"% to ", &[Number(fewest)]);
     }
     out.fill(b"% input% and ", &[Number(most), plural(most)]);
-    out.put(if kind.has_output() {
-        b"1 output, and "
+    let outputs = Shown(if kind.has_output() { b"1" } else { b"no" });
+    let marks = Shown(if kind.may_be_marked() {
+        b"one"
     } else {
-        b"no output, and "
+        b"none"
     });
-    out.put(if kind.may_be_marked() {
-        b"one input may have the mark !H\n"
-    } else {
-        b"no mark !H\n"
-    });
+    out.fill(b"% output; % may have the mark !H\n", &[outputs, marks]);
 }
 
 /// How many connections a use or a head has.
@@ -309,7 +297,7 @@ pub fn add_connections(out: &mut Lines, text: &Text, label: usize) {
     } else if let Some(head) = text.macro_named(name) {
         out.fill(b"    % takes ", &[Quoted(name)]);
         add_counts(out, text, text.use_at(head.saturating_sub(1)));
-        out.put(b", and no mark !H\n");
+        out.put(b"; none may have the mark !H\n");
     }
     out.put(b"    here it has ");
     add_counts(out, text, used);
