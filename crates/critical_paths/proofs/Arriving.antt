@@ -19,15 +19,23 @@ pub grows_one : (old new : List Node) (n : Node) → new ≡ old ++ n ∷ [] →
 grows_one old new n is = record { more = n ∷ []; is = is }
 
 -- what was known stays so
-pub knows_grown : (c : Circuit) (ws : Waves) (old new : List Node) (met after : List (Stop × ℕ)) → Grows old new → after ≡ met →
+pub knows_grown : (c : Circuit) (ws : Waves) (old new : List Node) (met after : List (Stop × ℕ)) →
+    Grows old new → after ≡ met →
     Knows c ws old met → Knows c ws new after
 knows_grown c ws old new met after grows same knows =
     subst (λ (es : List (Stop × ℕ)). Knows c ws new es) (sym same)
-    (subst (λ (nodes : List Node). Knows c ws nodes met) (sym grows.is) (knows_more c ws old grows.more met knows))
+    (subst (λ (nodes : List Node). Knows c ws nodes met) (sym grows.is)
+    (knows_more c ws old grows.more met knows))
 
 pub near_by : (most : ℕ) (z : ℤ) → unsigned_abs z ≤ most → IsNear most z
-near_by most (pos n) less = record { low = omega (arith, ints, less); high = omega (arith, ints, less) }
-near_by most (negsuc n) less = record { low = omega (arith, ints, less); high = omega (arith, ints, less) }
+near_by most (pos n) less = record {
+  low = omega (arith, ints, less);
+  high = omega (arith, ints, less);
+}
+near_by most (negsuc n) less = record {
+  low = omega (arith, ints, less);
+  high = omega (arith, ints, less);
+}
 
 -- what is driven is a net
 pub driven_within : (nets : List Net) (i k : ℕ) → driver_at nets i ≡ Some k → i < length nets

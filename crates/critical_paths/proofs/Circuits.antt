@@ -1,10 +1,10 @@
 -- Small circuits over a period of sixteen slots, of which examples speak.
 use Prim.Native.String.{String}
-use Rattle.std.specs.Prelude.{ℕ, ◌==◌, Bool, true, false, List, [], ◌∷◌, codes, length, map, if◌then◌else◌, Option, Some, None}
+use Rattle.std.specs.Prelude.{ℕ, ◌==◌, true, false, List, [], ◌∷◌, codes, map, if◌then◌else◌, Option, Some, None}
 use Rattle.scald_base.specs.Time.{Bounds, Header}
 use Rattle.scald_base.specs.declared.assertion.AssertSpec.{AssertSpec}
-use Rattle.scald_base.specs.declared.assertion.AssertSpec.TheVariants.{None as Unasserted, Precision, Clock, Stable}
-use Rattle.vector_names.specs.declared.bits.Target.TheVariants.{Net as OnNet, Constant}
+use Rattle.scald_base.specs.declared.assertion.AssertSpec.TheVariants.{None as Unasserted, Precision}
+use Rattle.vector_names.specs.declared.bits.Target.TheVariants.{Net as OnNet}
 use Rattle.step_values.specs.declared.value.Value.{Value}
 use Rattle.step_values.specs.declared.value.Value.TheVariants.{Zero, One, S, C, R, F, U}
 use Rattle.skew_algebra.specs.Wave.{Wave, skewed}
@@ -39,7 +39,11 @@ driven k = record { name = []; bit = 0; spec = Unasserted; wire = bounds 0 0; dr
 
 -- a clock that is 1 from one unit to another, with this skew
 abbrev pub clock : ℕ → ℕ → ℕ × ℕ → AssertSpec
-clock lo hi skew = Precision (record { spans = record { lo = lo; hi = hi } ∷ []; skew = Some skew; low = false })
+clock lo hi skew = Precision (record {
+  spans = record { lo = lo; hi = hi } ∷ [];
+  skew = Some skew;
+  low = false;
+})
 
 -- ---- instances
 
@@ -71,7 +75,8 @@ abbrev pub element : Kind → Bounds → List Pin → Instance
 element kind delay pins = instance kind pins delay None Unlimited
 
 abbrev pub of_two_delays : Kind → Bounds → Bounds → List Pin → Instance
-of_two_delays kind rise fall pins = instance kind pins (bounds 0 0) (Some (record { rise = rise; fall = fall })) Unlimited
+of_two_delays kind rise fall pins = instance kind pins (bounds 0 0)
+    (Some (record { rise = rise; fall = fall })) Unlimited
 
 -- the two limits of a checker, by what it checks
 abbrev pub limits_by : Option Check → ℕ × ℕ → Limits

@@ -1,5 +1,5 @@
 -- The event before one, through one of two delays.
-use Rattle.std.proofs.Common.{◌≡◌, ℕ, ◌-◌, ◌<◌, Bool, true, false, ◌&&◌, cond, refl, sym, ap, subst, ◌∙◌, Option, Some, None, ℤ, pos, negsuc, ◌-ℤ◌}
+use Rattle.std.proofs.Common.{◌≡◌, ℕ, ◌<◌, Bool, true, false, ◌&&◌, cond, refl, sym, ap, subst, ◌∙◌, Option, Some, None, ℤ, pos, negsuc}
 use Rattle.std.specs.Prelude.{is_some}
 use Rattle.std.specs.Option.{option_and_then, option_map, option_or}
 use Rattle.scald_base.specs.Time.{Bounds, period}
@@ -16,7 +16,7 @@ use Rattle.critical_paths.specs.declared.path.Word.{Word}
 use Rattle.critical_paths.specs.Tick.{slot_of}
 use Rattle.critical_paths.specs.Event.{Event, is_step, opposite, turned}
 use Rattle.critical_paths.specs.Path.{Arc, Before, arc_at_corner, arc_in, arc_inward, arc_with, asks, before, before_arc, before_by, cut, cut_at, cut_by, cut_off, delay_to, firm_arc, free_arc, if_word, inner_arc, is_any, is_bounded, is_cut_by, is_event, is_tight}
-use Rattle.critical_paths.specs.Views.{delay_by, delay_of_step}
+use Rattle.critical_paths.specs.Views.{cut_near, delay_by, delay_of_step}
 use Rattle.critical_paths.proofs.Ticks.{slot_back, slot_next}
 
 -- ---- the first of several
@@ -201,12 +201,7 @@ module _ (c : Circuit) (ws : Waves) (j : Instance) (corner : Corner) (s : Split)
 
   -- the ticks at which it is looked for
   pub looked : (net : ℕ) (other : Direction) (tick : ℤ) → 0 < period c.header →
-      option_or (cut_at c ws j corner s
-      (cut_off net other (pos 0) (slot_of (period c.header) (tick -ℤ pos 0))))
-      (option_or (cut_at c ws j corner s
-      (cut_off net other (pos 1) (slot_of (period c.header) (tick -ℤ pos 1))))
-      (cut_at c ws j corner s (cut_off net other (negsuc 0)
-      (slot_of (period c.header) (tick -ℤ negsuc 0)))))
+      cut_near c ws j corner net tick s other
       ≡ cut_by c ws j corner net (slot_of (period c.header) tick) s other
   looked net other tick some =
       let a = slot_back (period c.header) 0 tick some in

@@ -16,7 +16,7 @@ use Rattle.critical_paths.specs.declared.path.Word.{Word}
 use Rattle.critical_paths.specs.declared.path.Word.TheVariants.{Tight, Same}
 use Rattle.critical_paths.specs.Cause.{made1, made2, made3, made4}
 use Rattle.critical_paths.specs.Event.{Event}
-use Rattle.critical_paths.specs.Path.{End, Link, Path, Source}
+use Rattle.critical_paths.specs.Path.{Link, Path, Source}
 use Rattle.critical_paths.specs.Walk.{end_path_of, path_of_stop}
 use Rattle.critical_paths.proofs.Circuits.{bounds, circuit, clock, driven, element, input, late_wave, of_two_delays, pin, wave}
 
@@ -34,17 +34,20 @@ path links last = record { links = links; last = last; end = Source }
 -- ---- a tree of 2 to 4 ticks, behind a clock that comes up to one tick early or late as a whole
 
 abbrev tree : Circuit
-tree = circuit (input (clock 0 8 (1, 1)) ∷ driven 0 ∷ []) (element Buf (bounds 2 4) (pin 0 ∷ []) ∷ [])
+tree = circuit (input (clock 0 8 (1, 1)) ∷ driven 0 ∷ [])
+    (element Buf (bounds 2 4) (pin 0 ∷ []) ∷ [])
 
 abbrev tree_waves : Waves
 tree_waves = waves_of (late_wave "1111111F0000000R" 2 ∷ late_wave "0R1111111F000000" 4 ∷ [])
 
 -- both ends take the least delay
-begin_of_one : end_path_of tree tree_waves Late (event 1 Rise 1) ≡ path (by 1 Rise 1 0 2 Same ∷ []) (event 0 Rise 15)
+begin_of_one : end_path_of tree tree_waves Late (event 1 Rise 1)
+    ≡ path (by 1 Rise 1 0 2 Same ∷ []) (event 0 Rise 15)
 unfolding path_of_stop back earlier moved normal hazard made1 made2 made3 made4
 begin_of_one = refl
 
-end_of_one : end_path_of tree tree_waves Early (event 1 Fall 9) ≡ path (by 1 Fall 9 0 2 Same ∷ []) (event 0 Fall 7)
+end_of_one : end_path_of tree tree_waves Early (event 1 Fall 9)
+    ≡ path (by 1 Fall 9 0 2 Same ∷ []) (event 0 Fall 7)
 unfolding path_of_stop back earlier moved normal hazard made1 made2 made3 made4
 end_of_one = refl
 
@@ -59,11 +62,13 @@ abbrev two_waves : Waves
 two_waves = waves_of (wave "R11111111111F000" ∷ wave "0RRRRRRRR1111F00" ∷ [])
 
 -- the begin takes the greatest of the rise, and the end the least of the fall
-begin_of_two : end_path_of two two_waves Late (event 1 Rise 8) ≡ path (by 1 Rise 8 0 8 Tight ∷ []) (event 0 Rise 0)
+begin_of_two : end_path_of two two_waves Late (event 1 Rise 8)
+    ≡ path (by 1 Rise 8 0 8 Tight ∷ []) (event 0 Rise 0)
 unfolding path_of_stop back earlier moved normal hazard made1 made2 made3 made4
 begin_of_two = refl
 
-end_of_two : end_path_of two two_waves Early (event 1 Fall 13) ≡ path (by 1 Fall 13 0 1 Tight ∷ []) (event 0 Fall 12)
+end_of_two : end_path_of two two_waves Early (event 1 Fall 13)
+    ≡ path (by 1 Fall 13 0 1 Tight ∷ []) (event 0 Fall 12)
 unfolding path_of_stop back earlier moved normal hazard made1 made2 made3 made4
 end_of_two = refl
 
@@ -77,11 +82,13 @@ both =
 abbrev both_waves : Waves
 both_waves = waves_of (wave "R1111111F0000000" ∷ wave "0000R1111111F000" ∷ late_wave "00R111F000R111F0" 1 ∷ [])
 
-begin_of_many : end_path_of both both_waves Late (event 2 Rise 2) ≡ path (by 2 Rise 2 0 2 Same ∷ []) (event 0 Rise 0)
+begin_of_many : end_path_of both both_waves Late (event 2 Rise 2)
+    ≡ path (by 2 Rise 2 0 2 Same ∷ []) (event 0 Rise 0)
 unfolding path_of_stop back earlier moved normal hazard made1 made2 made3 made4
 begin_of_many = refl
 
-end_of_many : end_path_of both both_waves Early (event 2 Fall 6) ≡ path (by 2 Fall 6 1 2 Same ∷ []) (event 1 Rise 4)
+end_of_many : end_path_of both both_waves Early (event 2 Fall 6)
+    ≡ path (by 2 Fall 6 1 2 Same ∷ []) (event 1 Rise 4)
 unfolding path_of_stop back earlier moved normal hazard made1 made2 made3 made4
 end_of_many = refl
 
@@ -95,6 +102,7 @@ changing =
 abbrev changing_waves : Waves
 changing_waves = waves_of (wave "R1111111F0000000" ∷ wave "SSCCCSSSSSCCCSSS" ∷ [])
 
-begin_of_change : end_path_of changing changing_waves Late (event 1 Change 4) ≡ path (by 1 Change 4 0 4 Tight ∷ []) (event 0 Rise 0)
+begin_of_change : end_path_of changing changing_waves Late (event 1 Change 4)
+    ≡ path (by 1 Change 4 0 4 Tight ∷ []) (event 0 Rise 0)
 unfolding path_of_stop back earlier moved normal hazard made1 made2 made3 made4
 begin_of_change = refl

@@ -1,8 +1,9 @@
--- Launches, arrivals and what is counted twice, over a period of sixteen slots, worked out on paper.
-use Rattle.std.specs.Prelude.{◌≡◌, ℕ, Bool, true, false, List, [], ◌∷◌, ℤ, pos, negsuc, Option, Some, None}
+-- Launches, arrivals and what is counted twice, over a period of sixteen slots, worked out on
+-- paper.
+use Rattle.std.specs.Prelude.{◌≡◌, ℕ, [], ◌∷◌, pos, negsuc, Option, Some, None}
 use Rattle.std.proofs.Common.{refl}
 use Rattle.scald_base.specs.Clock.{back}
-use Rattle.scald_base.specs.declared.assertion.AssertSpec.TheVariants.{None as Unasserted, Clock, Stable}
+use Rattle.scald_base.specs.declared.assertion.AssertSpec.TheVariants.{Stable}
 use Rattle.wave_core.specs.Slots.{earlier}
 use Rattle.skew_algebra.specs.Wave.{normal, moved}
 use Rattle.gate_eval.specs.Hold.{hazard}
@@ -10,7 +11,6 @@ use Rattle.element_kinds.specs.declared.kind.Kind.TheVariants.{Buf, Chg, Reg, Xo
 use Rattle.flat_circuit.specs.Circuit.{Circuit}
 use Rattle.fixpoint_engine.specs.Waves.{Waves, waves_of}
 use Rattle.critical_paths.specs.Cause.{made1, made2, made3, made4}
-use Rattle.critical_paths.specs.declared.direction.Corner.{Corner}
 use Rattle.critical_paths.specs.declared.direction.Corner.TheVariants.{Late, Early}
 use Rattle.critical_paths.specs.declared.direction.Direction.{Direction}
 use Rattle.critical_paths.specs.declared.direction.Direction.TheVariants.{Rise, Fall, Change}
@@ -21,7 +21,7 @@ use Rattle.critical_paths.specs.Path.{Path}
 use Rattle.critical_paths.specs.Walk.{path_of, path_of_stop}
 use Rattle.critical_paths.specs.Launch.{Edge, ago, edge_of, offset_of, taken}
 use Rattle.critical_paths.specs.Arrival.{Arrival, arrivals}
-use Rattle.critical_paths.proofs.Circuits.{bounds, circuit, clock, driven, element, input, late_wave, of_two_delays, pin, wave}
+use Rattle.critical_paths.proofs.Circuits.{bounds, circuit, clock, driven, element, input, late_wave, pin, wave}
 
 abbrev event : ℕ → Direction → ℕ → Event
 event net direction slot = record { net = net; direction = direction; slot = slot }
@@ -95,17 +95,25 @@ clock_edge : edge_of tree Late (pos 5) clock_path ≡ Some (record { net = 0; ti
 unfolding path_of_stop back earlier moved normal hazard made1 made2 made3 made4
 clock_edge = refl
 
-by_the_edge : ago (edge_of tree Early (pos 2) data_path) (edge_of tree Late (pos 5) clock_path) ≡ Some (pos 0)
+by_the_edge : ago (edge_of tree Early (pos 2) data_path) (edge_of tree Late (pos 5) clock_path)
+    ≡ Some (pos 0)
 unfolding path_of_stop back earlier moved normal hazard made1 made2 made3 made4
 by_the_edge = refl
 
 -- the same of the next edge is a period before it
-a_period_ago : ago (edge_of tree Early (pos 2) data_path) (edge_of tree Late (pos 21) clock_path) ≡ Some (pos 16)
+a_period_ago : ago (edge_of tree Early (pos 2) data_path) (edge_of tree Late (pos 21) clock_path)
+    ≡ Some (pos 16)
 unfolding path_of_stop back earlier moved normal hazard made1 made2 made3 made4
 a_period_ago = refl
 
 abbrev edge : ℕ → ℕ → Option Edge
 edge net tick = Some (record { net = net; tick = pos tick })
+
+by_itself : ago (edge 0 20) (edge 0 20) ≡ Some (pos 0)
+by_itself = refl
+
+before_the_edge : ago (edge 0 17) (edge 0 20) ≡ Some (pos 3)
+before_the_edge = refl
 
 after_the_edge : ago (edge 0 20) (edge 0 17) ≡ Some (negsuc 2)
 after_the_edge = refl
@@ -137,7 +145,8 @@ changing_tree =
 abbrev changing_waves : Waves
 changing_waves = waves_of (wave "R1111111F0000000" ∷ wave "SSCCCSSSSSCCCSSS" ∷ [])
 
-no_change_function : counted_twice changing_tree (path_of changing_tree changing_waves Early (event 1 Change 2))
+no_change_function : counted_twice changing_tree
+    (path_of changing_tree changing_waves Early (event 1 Change 2))
     (path_of changing_tree changing_waves Late (event 1 Change 4)) ≡ []
 unfolding path_of_stop back earlier moved normal hazard made1 made2 made3 made4
 no_change_function = refl
@@ -166,13 +175,15 @@ unfolding arrivals back earlier moved normal hazard made1 made2 made3 made4
 first_of_the_edge = refl
 
 -- each edge of the clock arrives by itself, a fall as a change of its own
-each_edge : arrivals changing_tree changing_waves Late Change 1 ≡ Some (arrival 0 0 4 ∷ arrival 0 8 12 ∷ [])
+each_edge : arrivals changing_tree changing_waves Late Change 1
+    ≡ Some (arrival 0 0 4 ∷ arrival 0 8 12 ∷ [])
 unfolding arrivals back earlier moved normal hazard made1 made2 made3 made4
 each_edge = refl
 
 -- nothing is known through a loop
 abbrev looped : Circuit
-looped = circuit (input (clock 0 8 (0, 0)) ∷ driven 0 ∷ []) (element Xor (bounds 1 1) (pin 0 ∷ pin 1 ∷ []) ∷ [])
+looped = circuit (input (clock 0 8 (0, 0)) ∷ driven 0 ∷ [])
+    (element Xor (bounds 1 1) (pin 0 ∷ pin 1 ∷ []) ∷ [])
 
 none_of_a_loop : arrivals looped (waves_of (wave "R1111111F0000000" ∷ wave "UUUUUUUUUUUUUUUU" ∷ [])) Late Change 1 ≡ None
 unfolding arrivals back earlier moved normal hazard made1 made2 made3 made4

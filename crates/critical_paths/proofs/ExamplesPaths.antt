@@ -1,12 +1,12 @@
 -- Paths over a period of sixteen slots, worked out on paper.
-use Rattle.std.specs.Prelude.{◌≡◌, ℕ, Bool, true, false, List, [], ◌∷◌, Option, Some, None, negsuc}
+use Rattle.std.specs.Prelude.{◌≡◌, ℕ, List, [], ◌∷◌, negsuc}
 use Rattle.std.proofs.Common.{refl}
 use Rattle.scald_base.specs.Clock.{back}
 use Rattle.scald_base.specs.declared.assertion.AssertSpec.TheVariants.{None as Unasserted, Stable}
 use Rattle.wave_core.specs.Slots.{earlier}
 use Rattle.skew_algebra.specs.Wave.{normal, moved}
 use Rattle.gate_eval.specs.Hold.{hazard}
-use Rattle.element_kinds.specs.declared.kind.Kind.TheVariants.{Buf, And, Xor, Chg, Reg, RegRs, Latch}
+use Rattle.element_kinds.specs.declared.kind.Kind.TheVariants.{Buf, Chg, Reg, RegRs, Latch}
 use Rattle.flat_circuit.specs.Circuit.{Circuit}
 use Rattle.fixpoint_engine.specs.Waves.{Waves, waves_of}
 use Rattle.critical_paths.specs.Cause.{made1, made2, made3, made4}
@@ -15,7 +15,7 @@ use Rattle.critical_paths.specs.declared.direction.Direction.{Direction}
 use Rattle.critical_paths.specs.declared.direction.Direction.TheVariants.{Rise, Fall, Change}
 use Rattle.critical_paths.specs.Event.{Event}
 use Rattle.critical_paths.specs.declared.path.Word.{Word}
-use Rattle.critical_paths.specs.declared.path.Word.TheVariants.{Tight, Bounded, Loose, Inside, Same}
+use Rattle.critical_paths.specs.declared.path.Word.TheVariants.{Tight, Bounded, Loose, Inside}
 use Rattle.critical_paths.specs.declared.path.Passage.TheVariants.{Through, Cut}
 use Rattle.critical_paths.specs.Path.{Link, End, Source, Loop, Nothing, Path}
 use Rattle.critical_paths.specs.Walk.{path_of, path_of_stop}
@@ -85,7 +85,8 @@ from_the_input = refl
 
 -- ---- two delays
 
--- CK is 1 from 0 to 4. X rises 1 to 8 ticks after it, and falls 1 tick after: so it has fallen at 5.
+-- CK is 1 from 0 to 4. X rises 1 to 8 ticks after it, and falls 1 tick after: so it has fallen at
+-- 5.
 abbrev two : Circuit
 two =
     circuit (input (clock 0 4 (0, 0)) ∷ driven 0 ∷ [])
@@ -96,7 +97,8 @@ two_waves = waves_of (wave "R111F00000000000" ∷ wave "0RRRRF0000000000" ∷ []
 
 -- The last rise is at 4, since the fall at 5 cuts off what comes later.
 cut : path_of two two_waves Late (event 1 Rise 4)
-    ≡ path (record { event = event 1 Rise 4; passage = Cut (negsuc 0) } ∷ by 1 Fall 5 0 1 Tight ∷ []) (event 0 Fall 4) Source
+    ≡ path (record { event = event 1 Rise 4; passage = Cut (negsuc 0) } ∷ by 1 Fall 5 0 1 Tight ∷
+    []) (event 0 Fall 4) Source
 unfolding path_of_stop back earlier moved normal hazard made1 made2 made3 made4
 cut = refl
 

@@ -1,7 +1,7 @@
 -- Each link of a path is an event of its net.
-use Rattle.std.proofs.Common.{◌≡◌, ℕ, zero, suc, ◌+◌, ◌-◌, ◌<◌, ◌≤◌, Bool, true, false, ◌&&◌, cond, List, [], ◌∷◌, refl, sym, subst, arith, Option, Some, None}
-use Rattle.std.specs.Prelude.{IfSome, is_some, pos, negsuc}
-use Rattle.std.specs.List.{All, list_any}
+use Rattle.std.proofs.Common.{◌≡◌, ℕ, zero, suc, ◌+◌, Bool, true, false, cond, List, [], ◌∷◌, refl, sym, subst, Option, Some, None}
+use Rattle.std.specs.Prelude.{IfSome, pos, negsuc}
+use Rattle.std.specs.List.{list_any}
 use Rattle.std.specs.Option.{option_and_then, option_map, option_or}
 use Rattle.std.proofs.lemmas.Bool.{and_parts}
 use Rattle.std.proofs.lemmas.List.Elements.{All-nil, All-cons}
@@ -20,7 +20,7 @@ use Rattle.fixpoint_engine.specs.Waves.{Waves}
 use Rattle.critical_paths.specs.declared.direction.Corner.{Corner}
 use Rattle.critical_paths.specs.declared.direction.Direction.{Direction}
 use Rattle.critical_paths.specs.declared.direction.Direction.TheVariants.{Rise, Fall}
-use Rattle.critical_paths.specs.Path.{Link, End, Source, Loop, Nothing, Path, Arc, Before, arc_in, asks, before, before_arc, before_by, before_pin, before_target, before_wire, choices, cut, cut_at, cut_by, cut_off, cut_own, event_before, firm_arc, free_arc, is_cut_by, is_event}
+use Rattle.critical_paths.specs.Path.{Link, End, Source, Loop, Nothing, Arc, Before, arc_in, asks, before, before_arc, before_by, before_pin, before_target, before_wire, choices, cut, cut_at, cut_by, cut_off, cut_own, event_before, firm_arc, free_arc, is_cut_by, is_event}
 use Rattle.critical_paths.specs.Unfolded.{by_folds}
 use Rattle.critical_paths.specs.Walk.{ending, event_at, link, origin_by, origin_from, origin_of, path_after, path_from, path_of_stop, read_at, reading_of, same_stop, stop_count, stop_of}
 use Rattle.critical_paths.specs.declared.event.Reading.{Reading}
@@ -39,17 +39,21 @@ pub or_if : {A : Type 0} (P : A → Type 0) (here later : Option A) → IfSome h
 or_if P None later holds rest = rest
 or_if P (Some x) later holds rest = holds
 
-pub then_if : {A B : Type 0} (P : B → Type 0) (f : A → Option B) (o : Option A) → ((a : A) → IfSome (f a) P) →
+pub then_if : {A B : Type 0} (P : B → Type 0) (f : A → Option B) (o : Option A) →
+    ((a : A) → IfSome (f a) P) →
     IfSome (option_and_then f o) P
 then_if P f None each = tt
 then_if P f (Some a) each = each a
 
-pub first_if : {A : Type 0} (P : A → Type 0) (f : ℕ → Option A) (n i : ℕ) → ((k : ℕ) → IfSome (f k) P) →
+pub first_if : {A : Type 0} (P : A → Type 0) (f : ℕ → Option A) (n i : ℕ) →
+    ((k : ℕ) → IfSome (f k) P) →
     IfSome (first_some f n i) P
 first_if P f zero i each = tt
-first_if P f (suc n) i each = or_if P (f i) (first_some f n (i + 1)) (each i) (first_if P f n (i + 1) each)
+first_if P f (suc n) i each = or_if P (f i) (first_some f n (i + 1)) (each i)
+    (first_if P f n (i + 1) each)
 
-pub kept_if : {A : Type 0} (P : A → Type 0) (b : Bool) (x : A) → (b ≡ true → P x) → IfSome (cond b (Some x) None) P
+pub kept_if : {A : Type 0} (P : A → Type 0) (b : Bool) (x : A) → (b ≡ true → P x) →
+    IfSome (cond b (Some x) None) P
 kept_if P true x holds = holds refl
 kept_if P false x holds = tt
 
@@ -59,14 +63,17 @@ module _ (c : Circuit) (ws : Waves) (corner : Corner) where
   abbrev IsBefore : Before → Type 0
   IsBefore b = IsEvent c ws b.event
 
-  wire_event : (p : ℕ) (a : Arc) (d : Direction) (i n : ℕ) → IfSome (before_wire c ws corner p a d i n) IsBefore
+  wire_event : (p : ℕ) (a : Arc) (d : Direction) (i n : ℕ) →
+      IfSome (before_wire c ws corner p a d i n) IsBefore
   wire_event p a d i n =
-      kept_if IsBefore (is_event c ws (event_before corner (period c.header) p (wire_at c.nets i) d i n)) _ (λ is. is)
+      kept_if IsBefore (is_event c ws (event_before corner (period c.header) p (wire_at c.nets i) d
+      i n)) _ (λ is. is)
 
   target_event : (p : ℕ) (a : Arc) (inverted : Bool) (target : Target) →
       IfSome (before_target c ws corner p a inverted target) IsBefore
   target_event p a inverted (OnNet i) =
-      first_if IsBefore (before_wire c ws corner p a (turned inverted a.cause.direction) i) (choices (wire_at c.nets i)) 0
+      first_if IsBefore (before_wire c ws corner p a (turned inverted a.cause.direction) i)
+      (choices (wire_at c.nets i)) 0
       (wire_event p a (turned inverted a.cause.direction) i)
   target_event p a inverted (Constant b) = tt
 
@@ -74,11 +81,13 @@ module _ (c : Circuit) (ws : Waves) (corner : Corner) where
   pin_event p a None = tt
   pin_event p a (Some pin) = target_event p a pin.inverted pin.target
 
-  arc_event : (j : Instance) (q : ℕ) (o : Option Arc) → IfSome (option_and_then (before_arc c ws j corner q) o) IsBefore
+  arc_event : (j : Instance) (q : ℕ) (o : Option Arc) → IfSome
+      (option_and_then (before_arc c ws j corner q) o) IsBefore
   arc_event j q o = then_if IsBefore (before_arc c ws j corner q) o (λ a. pin_event _ a _)
 
   at_event : (j : Instance) (s : Split) (b : Before) → IfSome (cut_at c ws j corner s b) IsBefore
-  at_event j s b = kept_if IsBefore (is_cut_by c ws j corner s b) b (λ is. (and_parts (is_event c ws b.event) _ is).0)
+  at_event j s b = kept_if IsBefore (is_cut_by c ws j corner s b) b
+      (λ is. (and_parts (is_event c ws b.event) _ is).0)
 
   cutter_event : (j : Instance) (net slot : ℕ) (s : Split) (other : Direction) →
       IfSome (cut_by c ws j corner net slot s other) IsBefore
@@ -94,15 +103,19 @@ module _ (c : Circuit) (ws : Waves) (corner : Corner) where
   own_event j e s other true = cutter_event j e.net e.slot s other
   own_event j e s other false = tt
 
-  cut_event : (j : Instance) (e : Event) (own : Direction) (s : Split) → IfSome (cut c ws j corner e own s) IsBefore
+  cut_event : (j : Instance) (e : Event) (own : Direction) (s : Split) →
+      IfSome (cut c ws j corner e own s) IsBefore
   cut_event j e own s =
-      or_if IsBefore (cut_own c ws j corner e own s Rise) _ (own_event j e s (turned j.out_inverted (opposite Rise)) (asks own Rise))
+      or_if IsBefore (cut_own c ws j corner e own s Rise) _
+      (own_event j e s (turned j.out_inverted (opposite Rise)) (asks own Rise))
       (own_event j e s (turned j.out_inverted (opposite Fall)) (asks own Fall))
 
-  by_event : (j : Instance) (e : Event) (own : Direction) (o : Option Split) → IfSome (before_by c ws j corner e own o) IsBefore
+  by_event : (j : Instance) (e : Event) (own : Direction) (o : Option Split) →
+      IfSome (before_by c ws j corner e own o) IsBefore
   by_event j e own None = arc_event j e.slot (arc_in c ws j corner own e.slot j.delay)
   by_event j e own (Some s) =
-      or_if IsBefore (option_and_then (before_arc c ws j corner e.slot) (firm_arc c ws j corner own e.slot s)) _
+      or_if IsBefore (option_and_then (before_arc c ws j corner e.slot)
+      (firm_arc c ws j corner own e.slot s)) _
       (arc_event j e.slot (firm_arc c ws j corner own e.slot s))
       (or_if IsBefore (cut c ws j corner e own s) _ (cut_event j e own s)
       (arc_event j e.slot (free_arc c ws j corner own e.slot s)))
@@ -142,7 +155,8 @@ module _ (c : Circuit) (ws : Waves) where
       by : (o : Option Instance) → IfEarlier (origin_by c ws s o)
       by None = tt
       by (Some j) =
-          subst (λ (r : Reading). IfEarlier (origin_from c s.corner (read_at c ws s j r))) (sym read.folded)
+          subst (λ (r : Reading). IfEarlier (origin_from c s.corner (read_at c ws s j r)))
+          (sym read.folded)
           (found (before c ws s.corner (event_at s) j) (before_event c ws s.corner j (event_at s)))
 
   abbrev IfFolded : Origin → Type 0
@@ -151,7 +165,8 @@ module _ (c : Circuit) (ws : Waves) where
   IfFolded (Earlier passage s) = s.reading ≡ Folded
 
   -- what a stop that is read by folds comes from is read so too
-  pub origin_folded : (s : Stop) (passage : Passage) (t : Stop) → s.reading ≡ Folded → origin_of c ws s ≡ Earlier passage t →
+  pub origin_folded : (s : Stop) (passage : Passage) (t : Stop) → s.reading ≡ Folded →
+      origin_of c ws s ≡ Earlier passage t →
       t.reading ≡ Folded
   origin_folded s passage t folded at = subst IfFolded at (by (driver c s.net))
     where
@@ -162,13 +177,18 @@ module _ (c : Circuit) (ws : Waves) where
       by : (o : Option Instance) → IfFolded (origin_by c ws s o)
       by None = tt
       by (Some j) =
-          subst (λ (r : Reading). IfFolded (origin_from c s.corner (read_at c ws s j r))) (sym folded)
+          subst (λ (r : Reading). IfFolded (origin_from c s.corner (read_at c ws s j r)))
+          (sym folded)
           (found (before c ws s.corner (event_at s) j))
 
   end_events : (s : Stop) (end : End) → IsRead s → AreEvents c ws (ending s end)
-  end_events s end is = record { links = All-nil (λ (l : Link). IsEvent c ws l.event); last = is.event }
+  end_events s end is = record {
+    links = All-nil (λ (l : Link). IsEvent c ws l.event);
+    last = is.event;
+  }
 
-  path_events : (n : ℕ) (seen : List Stop) (s : Stop) → IsRead s → AreEvents c ws (path_from c ws n seen s)
+  path_events : (n : ℕ) (seen : List Stop) (s : Stop) → IsRead s →
+      AreEvents c ws (path_from c ws n seen s)
   path_events zero seen s is = end_events s Loop is
   path_events (suc n) seen s is =
       by (list_any (same_stop s) seen) (origin_of c ws s) (origin_read s is)
@@ -182,13 +202,15 @@ module _ (c : Circuit) (ws : Waves) where
       after (Earlier passage before) read rest =
           let more = rest before read in
           record {
-            links = All-cons (λ (l : Link). IsEvent c ws l.event) (link s passage) _ is.event more.links;
+            links = All-cons (λ (l : Link). IsEvent c ws l.event) (link s passage) _ is.event
+                more.links;
             last = more.last;
           }
 
       by : (b : Bool) (o : Origin) → IfEarlier o →
           ((before : Stop) → IsRead before → AreEvents c ws (path_from c ws n (s ∷ seen) before)) →
-          AreEvents c ws (cond b (ending s Loop) (path_after s (λ before. path_from c ws n (s ∷ seen) before) o))
+          AreEvents c ws (cond b (ending s Loop) (path_after s
+          (λ before. path_from c ws n (s ∷ seen) before) o))
       by true o read rest = end_events s Loop is
       by false o read rest = after o read rest
 

@@ -1,5 +1,5 @@
 -- What an element makes of chosen steps of its pins.
-use Rattle.std.proofs.Common.{inl, inr, ◌≡◌, ℕ, zero, suc, ◌+◌, ◌-◌, ◌<◌, ◌≤◌, Bool, true, false, not, ◌&&◌, ◌||◌, cond, List, [], ◌∷◌, ◌++◌, length, get_or, set, take, map, fold, refl, sym, ap, subst, ◌∙◌, arith, eq-eqb}
+use Rattle.std.proofs.Common.{inl, inr, ◌≡◌, ℕ, zero, suc, ◌+◌, ◌<◌, ◌≤◌, Bool, true, false, not, ◌&&◌, ◌||◌, cond, List, [], ◌∷◌, ◌++◌, length, get_or, set, take, map, fold, refl, sym, ap, subst, ◌∙◌, arith, eq-eqb}
 use Rattle.std.proofs.Math.ListN.{length-set}
 use Rattle.std.proofs.lemmas.Bool.{cases_eq, ne_eqb}
 use Rattle.std.proofs.lemmas.List.{get_or-map, get_or-set_same, get_or-set_other, length-map}
@@ -16,6 +16,7 @@ use Rattle.element_kinds.specs.declared.kind.Kind.{Kind}
 use Rattle.element_kinds.specs.declared.kind.Kind.TheVariants.{And, Or, Xor, Mux2, Reg, RegRs, Latch, LatchRs}
 use Rattle.element_kinds.specs.Kinds.{listens}
 use Rattle.storage_eval.specs.Storage.{listening, listening_from}
+use Rattle.flat_circuit.specs.Kind.{pin_counts}
 use Rattle.gate_eval.specs.Hold.{value_of_pin}
 use Rattle.critical_paths.specs.declared.direction.Direction.{Direction}
 use Rattle.critical_paths.specs.declared.direction.Direction.TheVariants.{Rise, Fall, Change}
@@ -393,7 +394,7 @@ pub at_kind : (kind k : Kind) (sets : List Steps) (r : Steps) → kind ≡ k →
     Same r (output_steps kind (listening kind sets))
 at_kind kind k sets r is e b b' = e b b' ∙ sym (ap (λ z. output_steps z (listening z sets) b b') is)
 
-pub at_count : (kind k : Kind) (found : List Value) (pin : ℕ) (before after : Bool) (n : ℕ)
+at_count : (kind k : Kind) (found : List Value) (pin : ℕ) (before after : Bool) (n : ℕ)
     (r : Steps) → kind ≡ k → length found ≡ n →
     Same r (output_steps k (listening k (slots n (chosen found pin before after)))) →
     Same r (output_steps kind (listening kind (choosing found pin before after)))
@@ -401,5 +402,13 @@ at_count kind k found pin before after n r is long e =
     at_kind kind k (choosing found pin before after) r is
     (λ b b'. e b b' ∙ sym (ap (λ (s : Steps). s b b') (made_at k found pin before after n long)))
 
-pub count_is : (kind k : Kind) (n : ℕ) → kind ≡ k → IsCount kind n → IsCount k n
-count_is kind k n is count = subst (λ z. IsCount z n) is count
+-- of a kind that has so many pins, and no more or fewer
+pub at_size : (kind k : Kind) (found : List Value) (pin : ℕ) (before after : Bool) (n : ℕ)
+    (r : Steps) → kind ≡ k → IsCount kind (length found) → pin_counts k ≡ (n, n) →
+    Same r (output_steps k (listening k (slots n (chosen found pin before after)))) →
+    Same r (output_steps kind (listening kind (choosing found pin before after)))
+at_size kind k found pin before after n r is fits size e =
+    let count = subst (λ z. IsCount z (length found)) is fits in
+    let least : n ≤ length found = subst (λ (z : ℕ × ℕ). z.0 ≤ length found) size count.0 in
+    let most : length found ≤ n = subst (λ (z : ℕ × ℕ). length found ≤ z.1) size count.1 in
+    at_count kind k found pin before after n r is (omega (arith, least, most)) e

@@ -1,5 +1,5 @@
 -- What the searches over ticks find.
-use Rattle.std.proofs.Common.{inl, inr, ◌≡◌, ℕ, zero, suc, ◌+◌, ◌-◌, ◌<◌, ◌≤◌, Bool, true, false, cond, refl, sym, ap, subst, ◌∙◌, arith, Option, Some, None}
+use Rattle.std.proofs.Common.{inl, inr, ◌≡◌, ℕ, zero, suc, ◌+◌, ◌-◌, ◌<◌, ◌≤◌, Bool, true, false, cond, refl, sym, ap, ◌∙◌, arith, Option, Some, None}
 use Rattle.std.proofs.lemmas.Bool.{cases_eq}
 use Rattle.critical_paths.specs.Region.{first_from, last_up_to}
 
@@ -17,7 +17,8 @@ pub record IsLast (test : ℕ → Bool) (n t x : ℕ) : Type 0 where
 
 -- ---- the first
 
-first_either : (test : ℕ → Bool) (n t x : ℕ) (b : Bool) → test t ≡ b → cond b (Some t) (first_from test n (t + 1)) ≡ Some x →
+first_either : (test : ℕ → Bool) (n t x : ℕ) (b : Bool) → test t ≡ b →
+    cond b (Some t) (first_from test n (t + 1)) ≡ Some x →
     (first_from test n (t + 1) ≡ Some x → IsFirst test n (t + 1) x) → IsFirst test (suc n) t x
 first_either test n t x true here is rest =
     let same : t ≡ x = cc in
@@ -43,9 +44,11 @@ first_either test n t x false here is rest =
 
 pub first_is : (test : ℕ → Bool) (n t x : ℕ) → first_from test n t ≡ Some x → IsFirst test n t x
 first_is test zero t x is = absurd (cc)
-first_is test (suc n) t x is = first_either test n t x (test t) refl is (λ rest. first_is test n (t + 1) x rest)
+first_is test (suc n) t x is = first_either test n t x (test t) refl is
+    (λ rest. first_is test n (t + 1) x rest)
 
-pub first_from_is : (test : ℕ → Bool) (n t x : ℕ) → IsFirst test n t x → first_from test n t ≡ Some x
+pub first_from_is : (test : ℕ → Bool) (n t x : ℕ) → IsFirst test n t x → first_from test n t
+    ≡ Some x
 first_from_is test zero t x first =
     let from = first.from in
     let below = first.below in
@@ -74,29 +77,35 @@ pub record FirstUpTo (o : Option ℕ) (u : ℕ) : Type 0 where
   pub sooner : tick ≤ u
 
 first_found : (test : ℕ → Bool) (n t u : ℕ) (b : Bool) → test t ≡ b → t ≤ u → test u ≡ true →
-    (t < u → FirstUpTo (first_from test n (t + 1)) u) → FirstUpTo (cond b (Some t) (first_from test n (t + 1))) u
+    (t < u → FirstUpTo (first_from test n (t + 1)) u) → FirstUpTo
+    (cond b (Some t) (first_from test n (t + 1))) u
 first_found test n t u true here from passes rest = record { tick = t; is = refl; sooner = from }
 first_found test n t u false here from passes rest = elim (cases_eq t u) [
   | inl same ↦ absurd (cc (sym here ∙ ap test same ∙ passes))
   | inr other ↦ rest (omega (arith, from, other))
 ]
 
-pub first_up_to : (test : ℕ → Bool) (n t u : ℕ) → t ≤ u → u < t + n → test u ≡ true → FirstUpTo (first_from test n t) u
+pub first_up_to : (test : ℕ → Bool) (n t u : ℕ) → t ≤ u → u < t + n → test u ≡ true →
+    FirstUpTo (first_from test n t) u
 first_up_to test zero t u from below passes = absurd (omega (arith, from, below))
 first_up_to test (suc n) t u from below passes =
-    first_found test n t u (test t) refl from passes (λ less. first_up_to test n (t + 1) u (omega (arith, less)) (omega (arith, below)) passes)
+    first_found test n t u (test t) refl from passes
+    (λ less. first_up_to test n (t + 1) u (omega (arith, less)) (omega (arith, below)) passes)
 
 -- none passes
-pub first_none : (test : ℕ → Bool) (n t : ℕ) → first_from test n t ≡ None → (u : ℕ) → t ≤ u → u < t + n → test u ≡ false
+pub first_none : (test : ℕ → Bool) (n t : ℕ) → first_from test n t ≡ None → (u : ℕ) → t ≤ u →
+    u < t + n → test u ≡ false
 first_none test n t none u from below = by (test u) refl
   where
     by : (b : Bool) → test u ≡ b → test u ≡ false
     by false is = is
-    by true is = let found = first_up_to test n t u from below is in absurd (cc (sym none ∙ found.is))
+    by true is = let found = first_up_to test n t u from below is in
+        absurd (cc (sym none ∙ found.is))
 
 -- ---- the last
 
-last_either : (test : ℕ → Bool) (n t x : ℕ) (b : Bool) → test t ≡ b → cond b (Some t) (last_up_to test n (t - 1)) ≡ Some x →
+last_either : (test : ℕ → Bool) (n t x : ℕ) (b : Bool) → test t ≡ b →
+    cond b (Some t) (last_up_to test n (t - 1)) ≡ Some x →
     (last_up_to test n (t - 1) ≡ Some x → IsLast test n (t - 1) x) → IsLast test (suc n) t x
 last_either test n t x true here is rest =
     let same : t ≡ x = cc in
@@ -119,9 +128,11 @@ last_either test n t x false here is rest =
 
 pub last_is : (test : ℕ → Bool) (n t x : ℕ) → last_up_to test n t ≡ Some x → IsLast test n t x
 last_is test zero t x is = absurd (cc)
-last_is test (suc n) t x is = last_either test n t x (test t) refl is (λ rest. last_is test n (t - 1) x rest)
+last_is test (suc n) t x is = last_either test n t x (test t) refl is
+    (λ rest. last_is test n (t - 1) x rest)
 
-pub last_up_to_is : (test : ℕ → Bool) (n t x : ℕ) → t < x + n → IsLast test n t x → last_up_to test n t ≡ Some x
+pub last_up_to_is : (test : ℕ → Bool) (n t x : ℕ) → t < x + n → IsLast test n t x →
+    last_up_to test n t ≡ Some x
 last_up_to_is test zero t x near last =
     let up_to = last.up_to in
     absurd (omega (arith, up_to, near))
@@ -147,14 +158,18 @@ pub record LastFrom (o : Option ℕ) (u : ℕ) : Type 0 where
   pub later : u ≤ tick
 
 last_found : (test : ℕ → Bool) (n t u : ℕ) (b : Bool) → test t ≡ b → u ≤ t → test u ≡ true →
-    (u < t → LastFrom (last_up_to test n (t - 1)) u) → LastFrom (cond b (Some t) (last_up_to test n (t - 1))) u
+    (u < t → LastFrom (last_up_to test n (t - 1)) u) → LastFrom
+    (cond b (Some t) (last_up_to test n (t - 1))) u
 last_found test n t u true here up_to passes rest = record { tick = t; is = refl; later = up_to }
 last_found test n t u false here up_to passes rest = elim (cases_eq t u) [
   | inl same ↦ absurd (cc (sym here ∙ ap test same ∙ passes))
   | inr other ↦ rest (omega (arith, up_to, other))
 ]
 
-pub last_from : (test : ℕ → Bool) (n t u : ℕ) → u ≤ t → t < u + n → test u ≡ true → LastFrom (last_up_to test n t) u
+pub last_from : (test : ℕ → Bool) (n t u : ℕ) → u ≤ t → t < u + n → test u ≡ true →
+    LastFrom (last_up_to test n t) u
 last_from test zero t u up_to near passes = absurd (omega (arith, up_to, near))
 last_from test (suc n) t u up_to near passes =
-    last_found test n t u (test t) refl up_to passes (λ less. last_from test n (t - 1) u (omega (arith, less)) (omega (arith, near, less)) passes)
+    last_found test n t u (test t) refl up_to passes
+    (λ less. last_from test n (t - 1) u (omega (arith, less)) (omega (arith, near, less))
+    passes)

@@ -1,7 +1,6 @@
 -- When two stops are one.
-use Rattle.std.proofs.Common.{◌≡◌, ℕ, ◌==◌, Bool, true, false, ◌&&◌, ◌||◌, List, [], ◌∷◌, ◌++◌, slice_get, refl, sym, ap, ◌∙◌, zero, suc, eqb-true, eq-eqb, Option, Some, None, ◌⊎◌, inl, inr}
+use Rattle.std.proofs.Common.{◌≡◌, ℕ, ◌==◌, Bool, true, false, ◌||◌, List, [], ◌∷◌, ◌++◌, refl, ap, ◌∙◌, zero, suc, eqb-true, eq-eqb, Some, ◌⊎◌, inl, inr}
 use Rattle.std.proofs.lemmas.Bool.{and_parts, and_from, or_right, or_left}
-use Rattle.std.specs.List.{list_any}
 use Rattle.critical_paths.specs.declared.direction.Direction.{Direction}
 use Rattle.critical_paths.specs.declared.direction.Direction.TheVariants.{Rise, Fall, Change}
 use Rattle.critical_paths.specs.declared.direction.Corner.{Corner}
@@ -53,7 +52,8 @@ abbrev pub stop_by : ℕ → Direction → ℕ → Corner → Reading → Stop
 stop_by n d s c r = record { net = n; direction = d; slot = s; corner = c; reading = r }
 
 -- stops of the same parts are one
-pub stop_from : (a b : Stop) → a.net ≡ b.net → a.direction ≡ b.direction → a.slot ≡ b.slot → a.corner ≡ b.corner → a.reading ≡ b.reading → a ≡ b
+pub stop_from : (a b : Stop) → a.net ≡ b.net → a.direction ≡ b.direction → a.slot ≡ b.slot →
+    a.corner ≡ b.corner → a.reading ≡ b.reading → a ≡ b
 stop_from a b one two three four five =
     ap (λ (x : ℕ). stop_by x a.direction a.slot a.corner a.reading) one
     ∙ ap (λ (x : Direction). stop_by b.net x a.slot a.corner a.reading) two
@@ -93,7 +93,8 @@ stop_turned a b = by (same_stop a b) (same_stop b a) refl refl
 
 -- ---- what was met
 
-pub met_of : {X : Type 0} (entries : List (Stop × X)) (s : Stop) (i : X) → Has entries s i → are_met entries s ≡ true
+pub met_of : {X : Type 0} (entries : List (Stop × X)) (s : Stop) (i : X) → Has entries s i →
+    are_met entries s ≡ true
 met_of [] s i (k, is) = absurd (cc)
 met_of (e ∷ es) s i (zero, is) =
     let same : e ≡ (s, i) = some_is e (s, i) is in
@@ -111,7 +112,8 @@ met_more [] e q = by (same_stop q e.0)
     by : (b : Bool) → (b || false) ≡ b
     by true = refl
     by false = refl
-met_more (x ∷ xs) e q = ap (λ b. same_stop q x.0 || b) (met_more xs e q) ∙ joined (same_stop q x.0) (are_met xs q) (same_stop q e.0)
+met_more (x ∷ xs) e q = ap (λ b. same_stop q x.0 || b) (met_more xs e q)
+    ∙ joined (same_stop q x.0) (are_met xs q) (same_stop q e.0)
   where
     joined : (a b c : Bool) → (a || (b || c)) ≡ ((a || b) || c)
     joined true b c = refl
@@ -126,4 +128,5 @@ has_more [] e s i (zero, is) = inr (some_is e (s, i) is)
     some_is a b h = cc
 has_more [] e s i (suc k, is) = absurd (cc)
 has_more (x ∷ xs) e s i (zero, is) = inl (0, is)
-has_more (x ∷ xs) e s i (suc k, is) = elim (has_more xs e s i (k, is)) [ inl h ↦ inl (suc h.0, h.1) | inr h ↦ inr h ]
+has_more (x ∷ xs) e s i (suc k, is) = elim (has_more xs e s i (k, is))
+    [ inl h ↦ inl (suc h.0, h.1) | inr h ↦ inr h ]

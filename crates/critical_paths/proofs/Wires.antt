@@ -1,5 +1,5 @@
 -- What the program finds behind a pin, as the definitions say it.
-use Rattle.std.proofs.Common.{◌≡◌, ℕ, ◌-◌, ◌<◌, ◌≤◌, min, Bool, true, false, sym, ap, subst, ◌∙◌, Some, None, ℤ, pos, ◌-ℤ◌}
+use Rattle.std.proofs.Common.{◌≡◌, ℕ, ◌<◌, ◌≤◌, min, Bool, true, false, sym, ap, subst, ◌∙◌, Some, None, ℤ, pos, ◌-ℤ◌}
 use Rattle.std.specs.Prelude.{nat_lt}
 use Rattle.scald_base.specs.Clock.{back}
 use Rattle.scald_base.specs.Time.{Bounds, period}

@@ -1,8 +1,8 @@
--- Arrivals: of each edge of an input, the last tick at which a net may change by it, or the first, whatever else its
--- drivers' pins do. They tell launches apart where the wave of a net does not.
-use Rattle.std.specs.Prelude.{ℕ, zero, suc, ◌+◌, ◌-◌, ◌==◌, nat_lt, Bool, true, false, not, ◌&&◌, ◌||◌, List, [], ◌∷◌, ◌++◌, length, map, filter, filter_map, slice_get, slice_set, ℤ, pos, ◌-ℤ◌, int_lt, int_le, if◌then◌else◌, unwrap_or, Option, Some, None}
+-- Arrivals: of each edge of an input, the last tick at which a net may change by it, or the first,
+-- whatever else its drivers' pins do. They tell launches apart where the wave of a net does not.
+use Rattle.std.specs.Prelude.{ℕ, zero, suc, ◌+◌, ◌==◌, nat_lt, Bool, not, ◌&&◌, List, [], ◌∷◌, ◌++◌, length, map, filter, slice_get, ℤ, pos, ◌-ℤ◌, int_le, if◌then◌else◌, unwrap_or, Option, Some, None}
 use Rattle.std.specs.List.{list_any, range_with_len}
-use Rattle.std.specs.Option.{option_map, option_and_then}
+use Rattle.std.specs.Option.{option_map}
 use Rattle.scald_base.specs.Clock.{back}
 use Rattle.scald_base.specs.Time.{Bounds, period}
 use Rattle.vector_names.specs.declared.bits.Target.{Target}
@@ -45,7 +45,8 @@ abbrev pub arrival_at : Circuit → Corner → Direction → ℕ → ℕ → Arr
 arrival_at c corner d i t =
     record {
       source = i;
-      edge = pos t -ℤ unwrap_or (offset_of c corner (record { net = i; direction = d; slot = back (period c.header) t 0 })) (pos 0);
+      edge = pos t -ℤ unwrap_or (offset_of c corner
+          (record { net = i; direction = d; slot = back (period c.header) t 0 })) (pos 0);
       tick = t;
     }
 
@@ -61,8 +62,9 @@ source_arrivals c ws corner d i =
 
 -- ---- through an element
 
--- Which steps of a pin count for steps of the element's own output, before its complement: of a gate that keeps the
--- direction those in it, of storage the rises of its clock or enable, and of everything else each change.
+-- Which steps of a pin count for steps of the element's own output, before its complement: of a
+-- gate that keeps the direction those in it, of storage the rises of its clock or enable, and of
+-- everything else each change.
 abbrev pub first_rises : ℕ → Direction
 first_rises i = if i == 0 then Rise else Change
 
@@ -95,7 +97,8 @@ later_by ticks a = record { source = a.source; edge = a.edge; tick = a.tick + ti
 
 -- those at which the net may change in the direction
 abbrev pub events_among : Circuit → Waves → Direction → ℕ → List Arrival → List Arrival
-events_among c ws d i arrivals = filter (λ (a : Arrival). moves d (has (fold values (ws i) a.tick))) arrivals
+events_among c ws d i arrivals = filter (λ (a : Arrival). moves d (has (fold values (ws i) a.tick)))
+    arrivals
 
 -- ---- the last or the first of each edge
 
@@ -123,25 +126,33 @@ all_of [] = Some []
 all_of (some ∷ more) = joined some (all_of more)
 
 -- what a pin adds, by the arrivals at its net
-abbrev pub through_target : Circuit → Corner → Instance → Direction → Direction → Bool → Target → (Direction → ℕ → Option (List Arrival)) → Option (List Arrival)
+abbrev pub through_target : Circuit → Corner → Instance → Direction → Direction → Bool → Target →
+    (Direction → ℕ → Option (List Arrival)) → Option (List Arrival)
 through_target c corner j d own inverted (Constant b) at = Some []
 through_target c corner j d own inverted (OnNet m) at =
-    option_map (map (later_by (bound corner (wire_at c.nets m) + bound corner (own_delay j d)))) (at (turned inverted own) m)
+    option_map (map (later_by (bound corner (wire_at c.nets m) + bound corner (own_delay j d))))
+    (at (turned inverted own) m)
 
 -- A pin that the element does not listen to adds nothing.
-abbrev pub through_pin : Circuit → Corner → Instance → Direction → (Direction → ℕ → Option (List Arrival)) → ℕ → Option Pin → Option (List Arrival)
+abbrev pub through_pin : Circuit → Corner → Instance → Direction →
+    (Direction → ℕ → Option (List Arrival)) → ℕ → Option Pin → Option (List Arrival)
 through_pin c corner j d at i None = Some []
 through_pin c corner j d at i (Some pin) =
-    if listens j.kind i then through_target c corner j d (pin_direction j.kind i d) pin.inverted pin.target at else Some []
+    if listens j.kind i then through_target c corner j d (pin_direction j.kind i d) pin.inverted
+    pin.target at else Some []
 
-abbrev pub through_pins : Circuit → Corner → Instance → Direction → (Direction → ℕ → Option (List Arrival)) → Option (List Arrival)
+abbrev pub through_pins : Circuit → Corner → Instance → Direction →
+    (Direction → ℕ → Option (List Arrival)) → Option (List Arrival)
 through_pins c corner j d at =
-    all_of (map (λ i. through_pin c corner j d at i (slice_get j.pins i)) (range_with_len 0 (length j.pins)))
+    all_of (map (λ i. through_pin c corner j d at i (slice_get j.pins i))
+    (range_with_len 0 (length j.pins)))
 
-abbrev pub arrivals_by : Circuit → Waves → Corner → Direction → ℕ → (Direction → ℕ → Option (List Arrival)) → Option Instance → Option (List Arrival)
+abbrev pub arrivals_by : Circuit → Waves → Corner → Direction → ℕ →
+    (Direction → ℕ → Option (List Arrival)) → Option Instance → Option (List Arrival)
 arrivals_by c ws corner d i at None = Some (source_arrivals c ws corner d i)
 arrivals_by c ws corner d i at (Some j) =
-    option_map (λ found. furthest corner (events_among c ws d i found)) (through_pins c corner j (turned j.out_inverted d) at)
+    option_map (λ found. furthest corner (events_among c ws d i found))
+    (through_pins c corner j (turned j.out_inverted d) at)
 
 -- By ways of at most so many elements. Where one is longer there is a loop, and nothing is known.
 abbrev pub arrivals_within : Circuit → Waves → Corner → ℕ → Direction → ℕ → Option (List Arrival)
@@ -155,9 +166,11 @@ arrivals c ws corner d i = arrivals_within c ws corner (length c.nets + 1) d i
 
 -- ---- at a pin
 
-abbrev pub arrivals_on : Circuit → Waves → Corner → Direction → Bool → Target → Option (List Arrival)
+abbrev pub arrivals_on : Circuit → Waves → Corner → Direction → Bool → Target →
+    Option (List Arrival)
 arrivals_on c ws corner d inverted (OnNet i) =
-    option_map (map (later_by (bound corner (wire_at c.nets i)))) (arrivals c ws corner (turned inverted d) i)
+    option_map (map (later_by (bound corner (wire_at c.nets i))))
+    (arrivals c ws corner (turned inverted d) i)
 arrivals_on c ws corner d inverted (Constant b) = Some []
 
 abbrev pub arrivals_of : Circuit → Waves → Corner → Direction → Option Pin → Option (List Arrival)
@@ -165,5 +178,6 @@ arrivals_of c ws corner d None = None
 arrivals_of c ws corner d (Some pin) = arrivals_on c ws corner d pin.inverted pin.target
 
 -- the arrivals at a pin of an instance, its wire counted in
-abbrev pub pin_arrivals : Circuit → Waves → Corner → Instance → ℕ → Direction → Option (List Arrival)
+abbrev pub pin_arrivals : Circuit → Waves → Corner → Instance → ℕ → Direction →
+    Option (List Arrival)
 pin_arrivals c ws corner j i d = arrivals_of c ws corner d (slice_get j.pins i)

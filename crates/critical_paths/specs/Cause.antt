@@ -1,13 +1,14 @@
--- Causes: which steps of an element's pins in a slot make a step of its output, its delay and its complement not counted.
-use Rattle.std.specs.Prelude.{ℕ, ◌+◌, ◌-◌, ◌==◌, Bool, true, false, not, ◌&&◌, ◌||◌, List, [], ◌∷◌, fold, length, map, slice_index_or, slice_set, if◌then◌else◌, Option, Some, None, is_some, is_none}
+-- Causes: which steps of an element's pins in a slot make a step of its output, its delay and its
+-- complement not counted.
+use Rattle.std.specs.Prelude.{ℕ, ◌==◌, Bool, true, false, not, ◌&&◌, ◌||◌, List, [], ◌∷◌, fold, length, map, slice_index_or, slice_set, if◌then◌else◌, Option, Some, None}
 use Rattle.std.specs.Option.{option_map, option_or}
 use Rattle.scald_base.specs.Time.{period}
 use Rattle.step_values.specs.declared.value.Value.{Value}
-use Rattle.step_values.specs.declared.value.Value.TheVariants.{S, C, U}
+use Rattle.step_values.specs.declared.value.Value.TheVariants.{S}
 use Rattle.step_values.specs.Steps.{Steps, has}
 use Rattle.step_values.specs.Cell.{values}
 use Rattle.step_values.specs.Image.{some_bit, one_step, and_step, or_step, xor_step, mux2_step, reg_step, reg_rs_step, latch_step, latch_rs_step}
-use Rattle.skew_algebra.specs.Wave.{Wave, fold as fold_of}
+use Rattle.skew_algebra.specs.Wave.{fold as fold_of}
 use Rattle.element_kinds.specs.declared.kind.Kind.{Kind}
 use Rattle.element_kinds.specs.declared.kind.Kind.TheVariants.{Buf, And, Or, Xor, Mux2, Mux4, Mux8, Chg, Reg, RegRs, Latch, LatchRs, SetupHold, RiseFall, MinPulse}
 use Rattle.element_kinds.specs.Kinds.{is_change, listens}
@@ -22,7 +23,7 @@ use Rattle.critical_paths.specs.declared.direction.Corner.{Corner}
 use Rattle.critical_paths.specs.declared.direction.Direction.{Direction}
 use Rattle.critical_paths.specs.declared.direction.Direction.TheVariants.{Change}
 use Rattle.critical_paths.specs.declared.path.Word.{Word}
-use Rattle.critical_paths.specs.declared.path.Word.TheVariants.{Tight, Bounded, Loose, Inside, Same}
+use Rattle.critical_paths.specs.declared.path.Word.TheVariants.{Tight, Bounded, Loose}
 use Rattle.critical_paths.specs.Event.{beside, direction_of, moves, steps_of}
 
 -- ---- the steps of an output
@@ -41,10 +42,12 @@ made1 rule s before after = some_in s (λ b b'. rule b b' before after)
 unfoldable pub made2 : (Bool → Bool → Bool → Bool → Steps) → Steps → Steps → Steps
 made2 rule s t before after = some_in s (λ b b'. made1 (rule b b') t before after)
 
-unfoldable pub made3 : (Bool → Bool → Bool → Bool → Bool → Bool → Steps) → Steps → Steps → Steps → Steps
+unfoldable pub made3 : (Bool → Bool → Bool → Bool → Bool → Bool → Steps) → Steps → Steps → Steps →
+    Steps
 made3 rule s t u before after = some_in s (λ b b'. made2 (rule b b') t u before after)
 
-unfoldable pub made4 : (Bool → Bool → Bool → Bool → Bool → Bool → Bool → Bool → Steps) → Steps → Steps → Steps → Steps → Steps
+unfoldable pub made4 : (Bool → Bool → Bool → Bool → Bool → Bool → Bool → Bool → Steps) → Steps →
+    Steps → Steps → Steps → Steps
 made4 rule s t u v before after = some_in s (λ b b'. made3 (rule b b') t u v before after)
 
 -- two pins at a time, from the left
@@ -84,8 +87,8 @@ abbrev pub of_forced_enable : List Steps → Steps
 of_forced_enable (enable ∷ input ∷ set ∷ reset ∷ []) = made4 latch_rs_step enable input set reset
 of_forced_enable sets = no_steps
 
--- What an element of each kind makes of a set for each of its listening pins. A change function may change with any of
--- them, which `causes` says, and a checker makes nothing.
+-- What an element of each kind makes of a set for each of its listening pins. A change function may
+-- change with any of them, which `causes` says, and a checker makes nothing.
 abbrev pub output_steps : Kind → List Steps → Steps
 output_steps Buf sets = slice_index_or sets 0 no_steps
 output_steps And sets = made_from_left and_step sets
@@ -112,7 +115,8 @@ pin_sets c ws j p = map has (folds_in values (pin_waves c ws j) p)
 abbrev pub pin_fold : Circuit → Waves → Instance → ℕ → ℕ → Value
 pin_fold c ws j i p = fold_of values (wave_of_pin (pin_waves c ws j) i) p
 
--- The pin that is marked, where its rule holds: then it alone is listened to, and the others stay as they are.
+-- The pin that is marked, where its rule holds: then it alone is listened to, and the others stay
+-- as they are.
 abbrev pub held_of : Option ℕ → Option (ℕ × ℕ) → Option ℕ
 held_of (Some marked) None = Some marked
 held_of marked found = None
@@ -159,7 +163,8 @@ both some others before after = some before after && others before after
 
 -- each change of the one is one of the other
 abbrev pub are_among : Steps → Steps → Bool
-are_among some more = (not (some false true) || more false true) && (not (some true false) || more true false)
+are_among some more = (not (some false true) || more false true) &&
+    (not (some true false) || more true false)
 
 -- ---- the pin that an event comes through
 
@@ -170,20 +175,24 @@ pub record Cause : Type 0 where
   pub word : Word
 
 abbrev pub cause_at : ℕ → Word → Option Direction → Option Cause
-cause_at i word found = option_map (λ direction. record { pin = i; direction = direction; word = word }) found
+cause_at i word found = option_map (λ direction. record
+    { pin = i; direction = direction; word = word }) found
 
 -- all steps of the pin that cause it end in this slot
 abbrev pub tight_at : Circuit → Waves → Instance → Corner → Direction → ℕ → ℕ → Option Cause
 tight_at c ws j corner d p i =
-    if are_among (causes c ws j d p i) (ends c ws j corner p i) then cause_at i Tight (direction_of (causes c ws j d p i)) else None
+    if are_among (causes c ws j d p i) (ends c ws j corner p i) then cause_at i Tight
+    (direction_of (causes c ws j d p i)) else None
 
 -- some do
 abbrev pub partly_tight_at : Circuit → Waves → Instance → Corner → Direction → ℕ → ℕ → Option Cause
-partly_tight_at c ws j corner d p i = cause_at i Tight (direction_of (both (causes c ws j d p i) (ends c ws j corner p i)))
+partly_tight_at c ws j corner d p i = cause_at i Tight
+    (direction_of (both (causes c ws j d p i) (ends c ws j corner p i)))
 
 -- a step of the pin ends here and causes nothing, while another pin goes on
 abbrev pub bounding_at : Circuit → Waves → Instance → Corner → ℕ → ℕ → ℕ → Option Cause
-bounding_at c ws j corner p other i = cause_at i (Bounded other) (direction_of (ends c ws j corner p i))
+bounding_at c ws j corner p other i = cause_at i (Bounded other)
+    (direction_of (ends c ws j corner p i))
 
 -- steps of the pin cause it, and go on
 abbrev pub loose_at : Circuit → Waves → Instance → Direction → ℕ → ℕ → Option Cause
@@ -196,10 +205,11 @@ abbrev pub if_loose : (ℕ → Option Cause) → Option Cause → Option Cause
 if_loose bounding None = None
 if_loose bounding (Some loose) = option_or (bounding loose.pin) (Some loose)
 
--- The first pin of which all causes end in this slot; else one of which some do; else, where a pin causes the event, the
--- first of which a step ends here, and else that pin.
+-- The first pin of which all causes end in this slot; else one of which some do; else, where a pin
+-- causes the event, the first of which a step ends here, and else that pin.
 abbrev pub cause_of : Circuit → Waves → Instance → Corner → Direction → ℕ → Option Cause
 cause_of c ws j corner d p =
     option_or (first_pin j (tight_at c ws j corner d p))
     (option_or (first_pin j (partly_tight_at c ws j corner d p))
-    (if_loose (λ other. first_pin j (bounding_at c ws j corner p other)) (first_pin j (loose_at c ws j d p))))
+    (if_loose (λ other. first_pin j (bounding_at c ws j corner p other))
+    (first_pin j (loose_at c ws j d p))))

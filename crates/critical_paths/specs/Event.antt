@@ -1,5 +1,5 @@
--- Events: the ticks at which a net may make a step of some direction. A slot of the period stands for each tick that lies
--- whole periods after it, so events are read round the period.
+-- Events: the ticks at which a net may make a step of some direction. A slot of the period stands
+-- for each tick that lies whole periods after it, so events are read round the period.
 use Rattle.std.specs.Prelude.{ℕ, ◌+◌, ◌-◌, ◌==◌, Bool, true, false, not, ◌&&◌, ◌||◌, if◌then◌else◌, Option, Some, None}
 use Rattle.step_values.specs.declared.value.Value.{Value}
 use Rattle.step_values.specs.Steps.{Steps, has}

@@ -6,8 +6,8 @@ use Rattle.element_kinds.specs.declared.kind.Kind.{Kind}
 use Rattle.element_kinds.specs.declared.kind.Kind.TheVariants.{Buf, And, Or, Xor, Mux2, Mux4, Mux8, Chg, Reg, RegRs, Latch, LatchRs, SetupHold, RiseFall, MinPulse}
 use Rattle.critical_paths.specs.Cause.{no_steps}
 
--- Of a gate two inputs, of a multiplexer a select and two inputs, and of storage its enable, input, set and reset, of which
--- a register's input does not count. What other kinds make is not said so.
+-- Of a gate two inputs, of a multiplexer a select and two inputs, and of storage its enable, input,
+-- set and reset, of which a register's input does not count. What other kinds make is not said so.
 unfoldable pub rule_of : Kind → Bool → Bool → Bool → Bool → Bool → Bool → Bool → Bool → Steps
 rule_of Buf a a' b b' c c' d d' = no_steps
 rule_of And a a' b b' c c' d d' = and_step a a' b b'

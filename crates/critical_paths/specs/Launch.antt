@@ -1,5 +1,5 @@
 -- Launches: what a path takes, and which edge of a clock it comes from.
-use Rattle.std.specs.Prelude.{ℕ, ◌+◌, ◌==◌, Bool, true, false, List, [], ◌∷◌, ℤ, pos, negsuc, neg_ℤ, ◌+ℤ◌, ◌-ℤ◌, slice_get, if◌then◌else◌, Option, Some, None}
+use Rattle.std.specs.Prelude.{ℕ, ◌+◌, ◌==◌, Bool, List, [], ◌∷◌, ℤ, pos, neg_ℤ, ◌+ℤ◌, ◌-ℤ◌, slice_get, if◌then◌else◌, Option, Some, None}
 use Rattle.std.specs.Option.{option_map, option_and_then}
 use Rattle.scald_base.specs.declared.assertion.ClockSpec.{ClockSpec}
 use Rattle.scald_base.specs.declared.assertion.AssertSpec.{AssertSpec}
@@ -24,7 +24,8 @@ use Rattle.critical_paths.specs.Walk.{PinPath, event_at}
 
 -- ---- sums
 
--- What a link takes: its wire and its delay. An event that is cut off takes what it comes after its cutter.
+-- What a link takes: its wire and its delay. An event that is cut off takes what it comes after its
+-- cutter.
 abbrev pub ticks_of : Passage → ℤ
 ticks_of (Through pin wire delay word) = pos (wire + delay)
 ticks_of (Cut after) = after
@@ -83,7 +84,8 @@ corner_by Unfolded corner (Stable spans) = corner
 
 abbrev pub offset_read : Header → Stop → Option Net → Option ℤ
 offset_read h s None = None
-offset_read h s (Some net) = offset_by h (corner_by s.reading s.corner net.spec) (event_at s) net.spec
+offset_read h s (Some net) = offset_by h (corner_by s.reading s.corner net.spec) (event_at s)
+    net.spec
 
 -- the same of an event as a path reads it
 abbrev pub offset_at : Circuit → Stop → Option ℤ
@@ -98,7 +100,8 @@ pub record Edge : Type 0 where
 
 abbrev pub edge_by : Circuit → Corner → ℤ → Path → End → Option Edge
 edge_by c corner tick path Source =
-    option_map (λ after. record { net = path.last.net; tick = source_tick tick path -ℤ after }) (offset_of c corner path.last)
+    option_map (λ after. record { net = path.last.net; tick = source_tick tick path -ℤ after })
+    (offset_of c corner path.last)
 edge_by c corner tick path Loop = None
 edge_by c corner tick path Nothing = None
 
@@ -111,8 +114,8 @@ abbrev pub edge_of_pin : Circuit → Corner → ℕ → Option PinPath → Optio
 edge_of_pin c corner tick None = None
 edge_of_pin c corner tick (Some found) = edge_of c corner (pos tick -ℤ pos found.wire) found.path
 
--- By how many ticks the data's edge comes before the clock's, where both are of one net: more than 0 where it is an
--- earlier edge, and 0 where it is the clock's own.
+-- By how many ticks the data's edge comes before the clock's, where both are of one net: more than
+-- 0 where it is an earlier edge, and 0 where it is the clock's own.
 abbrev pub ago_of : Edge → Edge → Option ℤ
 ago_of data_edge clock_edge =
     if data_edge.net == clock_edge.net then Some (clock_edge.tick -ℤ data_edge.tick) else None

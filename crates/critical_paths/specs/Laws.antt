@@ -1,5 +1,5 @@
 -- Laws of paths.
-use Rattle.std.specs.Prelude.{◌≡◌, ◌≢◌, ◌↔◌, ℕ, ◌+◌, ◌-◌, ◌<◌, ◌≤◌, Bool, true, false, List, length, None}
+use Rattle.std.specs.Prelude.{◌≡◌, ◌≢◌, ◌↔◌, ℕ, ◌+◌, ◌-◌, ◌<◌, ◌≤◌, Bool, true, false, length, None}
 use Rattle.std.specs.List.{All, list_any}
 use Rattle.scald_base.specs.Clock.{back}
 use Rattle.scald_base.specs.Time.{Bounds, period}
@@ -26,12 +26,13 @@ pub record AreEvents (c : Circuit) (ws : Waves) (path : Path) : Type 0 where
 -- The nets of a path may change where it says, if the net that it is of does.
 abbrev pub PathsAreEvents : Type 0
 PathsAreEvents =
-    (c : Circuit) (ws : Waves) (corner : Corner) (e : Event) → IsEvent c ws e → AreEvents c ws (path_of c ws corner e)
+    (c : Circuit) (ws : Waves) (corner : Corner) (e : Event) → IsEvent c ws e →
+    AreEvents c ws (path_of c ws corner e)
 
 -- ---- where a path ends
 
--- A source is a net that nothing drives; where no pin causes an event some element drives the net; and a loop ends at an
--- event of one of its links.
+-- A source is a net that nothing drives; where no pin causes an event some element drives the net;
+-- and a loop ends at an event of one of its links.
 abbrev pub EndsAt : Circuit → Path → End → Type 0
 EndsAt c path Source = driver c path.last.net ≡ None
 EndsAt c path Loop = list_any (λ (l : Link). same_event path.last l.event) path.links ≡ true
@@ -56,26 +57,33 @@ pub record MovesWithin (z : Wave Value) (d : Bounds) (slot : ℕ) (before after 
   pub most : delay ≤ d.max
   pub is : has (fold values z (back (length z.cells) slot delay)) before after ≡ true
 
--- A wave that is late by a delay makes a change exactly where the wave makes it, a delay of its bounds before.
+-- A wave that is late by a delay makes a change exactly where the wave makes it, a delay of its
+-- bounds before.
 abbrev pub ChangesMove : Type 0
 ChangesMove =
-    (z : Wave Value) (d : Bounds) (slot : ℕ) (before after : Bool) → 2 ≤ length z.cells → d.min ≤ d.max → before ≢ after →
-    (has (fold values (moved values z d) slot) before after ≡ true) ↔ MovesWithin z d slot before after
+    (z : Wave Value) (d : Bounds) (slot : ℕ) (before after : Bool) → 2 ≤ length z.cells →
+    d.min ≤ d.max → before ≢ after →
+    (has (fold values (moved values z d) slot) before after ≡ true) ↔ MovesWithin z d slot before
+    after
 
--- So the last slot of a change is the greatest delay after the wave's last, and the first the least delay after its first.
+-- So the last slot of a change is the greatest delay after the wave's last, and the first the least
+-- delay after its first.
 pub record IsAtCorner (z : Wave Value) (delay slot beside : ℕ) (before after : Bool) : Type 0 where
   pub here : has (fold values z (back (length z.cells) slot delay)) before after ≡ true
   pub ends : has (fold values z (back (length z.cells) beside delay)) before after ≡ false
 
 abbrev pub LastIsAtCorner : Type 0
 LastIsAtCorner =
-    (z : Wave Value) (d : Bounds) (slot : ℕ) (before after : Bool) → 2 ≤ length z.cells → d.min ≤ d.max → before ≢ after →
-    has (fold values (moved values z d) slot) before after ≡ true → has (fold values (moved values z d) (slot + 1)) before after ≡ false →
+    (z : Wave Value) (d : Bounds) (slot : ℕ) (before after : Bool) → 2 ≤ length z.cells →
+    d.min ≤ d.max → before ≢ after →
+    has (fold values (moved values z d) slot) before after ≡ true →
+    has (fold values (moved values z d) (slot + 1)) before after ≡ false →
     IsAtCorner z d.max slot (slot + 1) before after
 
 abbrev pub FirstIsAtCorner : Type 0
 FirstIsAtCorner =
-    (z : Wave Value) (d : Bounds) (slot : ℕ) (before after : Bool) → 2 ≤ length z.cells → d.min ≤ d.max → before ≢ after →
+    (z : Wave Value) (d : Bounds) (slot : ℕ) (before after : Bool) → 2 ≤ length z.cells →
+    d.min ≤ d.max → before ≢ after →
     has (fold values (moved values z d) slot) before after ≡ true →
     has (fold values (moved values z d) (slot + (length z.cells - 1))) before after ≡ false →
     IsAtCorner z d.min slot (slot + (length z.cells - 1)) before after

@@ -1,5 +1,5 @@
 -- Links: which event an event came from.
-use Rattle.std.specs.Prelude.{ℕ, zero, suc, ◌+◌, ◌-◌, Bool, true, false, not, ◌&&◌, ◌||◌, List, [], ◌∷◌, length, slice_get, if◌then◌else◌, Option, Some, None, is_some, ℤ, pos, negsuc}
+use Rattle.std.specs.Prelude.{ℕ, zero, suc, ◌+◌, ◌-◌, Bool, true, false, ◌&&◌, List, slice_get, if◌then◌else◌, Option, Some, None, is_some, ℤ, pos, negsuc}
 use Rattle.std.specs.Option.{option_map, option_or, option_and_then}
 use Rattle.scald_base.specs.Clock.{back}
 use Rattle.scald_base.specs.Time.{Bounds, period}
@@ -11,7 +11,7 @@ use Rattle.skew_algebra.specs.Wave.{fold}
 use Rattle.flat_circuit.specs.declared.instance.Pin.{Pin}
 use Rattle.flat_circuit.specs.declared.instance.Instance.{Instance}
 use Rattle.flat_circuit.specs.declared.split.Split.{Split}
-use Rattle.flat_circuit.specs.Circuit.{Circuit, driver, wire_at}
+use Rattle.flat_circuit.specs.Circuit.{Circuit, wire_at}
 use Rattle.flat_circuit.specs.Split.{either_delay, two_delays}
 use Rattle.gate_eval.specs.Hold.{first_some}
 use Rattle.fixpoint_engine.specs.Waves.{Waves}
@@ -33,8 +33,8 @@ pub record Link : Type 0 where
   pub event : Event
   pub passage : Passage
 
--- A path ends where nothing drives the net, where the event stands in an earlier link, or where no pin causes it: two
--- levels meet, or set and reset are both there.
+-- A path ends where nothing drives the net, where the event stands in an earlier link, or where no
+-- pin causes it: two levels meet, or set and reset are both there.
 pub data End : Type 0 where
   Source : End
   Loop : End
@@ -84,13 +84,16 @@ arc delay n cause =
     }
 
 -- what causes a step of the driver's own output n delays inward from a corner
-abbrev pub arc_inward : Circuit → Waves → Instance → Corner → Direction → ℕ → Bounds → ℕ → Option Arc
+abbrev pub arc_inward : Circuit → Waves → Instance → Corner → Direction → ℕ → Bounds → ℕ →
+    Option Arc
 arc_inward c ws j corner d q bounds n =
-    option_map (arc (inward corner bounds n) n) (cause_of c ws j corner d (back (period c.header) q (inward corner bounds n)))
+    option_map (arc (inward corner bounds n) n) (cause_of c ws j corner d
+    (back (period c.header) q (inward corner bounds n)))
 
 -- the first, from the corner inward
 abbrev pub arc_in : Circuit → Waves → Instance → Corner → Direction → ℕ → Bounds → Option Arc
-arc_in c ws j corner d q bounds = first_some (arc_inward c ws j corner d q bounds) (choices bounds) 0
+arc_in c ws j corner d q bounds = first_some (arc_inward c ws j corner d q bounds) (choices bounds)
+    0
 
 -- ---- through one of two delays
 
@@ -131,14 +134,17 @@ delay_to s Fall = s.fall
 delay_to s Change = either_delay s
 
 -- what causes steps of one direction at the corner of their own delay, where they are asked for
-abbrev pub arc_at_corner : Circuit → Waves → Instance → Corner → Direction → ℕ → Split → (Word → Bool) → Direction → Option Arc
+abbrev pub arc_at_corner : Circuit → Waves → Instance → Corner → Direction → ℕ → Split →
+    (Word → Bool) → Direction → Option Arc
 arc_at_corner c ws j corner d q s test own =
     if asks d own then if_word test (arc_inward c ws j corner own q (delay_to s own) 0) else None
 
 -- rises before falls
-abbrev pub arc_with : Circuit → Waves → Instance → Corner → Direction → ℕ → Split → (Word → Bool) → Option Arc
+abbrev pub arc_with : Circuit → Waves → Instance → Corner → Direction → ℕ → Split → (Word → Bool) →
+    Option Arc
 arc_with c ws j corner d q s test =
-    option_or (arc_at_corner c ws j corner d q s test Rise) (arc_at_corner c ws j corner d q s test Fall)
+    option_or (arc_at_corner c ws j corner d q s test Rise)
+    (arc_at_corner c ws j corner d q s test Fall)
 
 -- what ends at its corner
 abbrev pub firm_arc : Circuit → Waves → Instance → Corner → Direction → ℕ → Split → Option Arc
@@ -146,7 +152,8 @@ firm_arc c ws j corner d q s =
     option_or (arc_with c ws j corner d q s is_tight) (arc_with c ws j corner d q s is_bounded)
 
 -- what goes on, or lies off its corner
-abbrev pub inner_arc : Circuit → Waves → Instance → Corner → Direction → ℕ → Split → Direction → Option Arc
+abbrev pub inner_arc : Circuit → Waves → Instance → Corner → Direction → ℕ → Split → Direction →
+    Option Arc
 inner_arc c ws j corner d q s own =
     if asks d own then arc_in c ws j corner own q (delay_to s own) else None
 
@@ -171,14 +178,16 @@ abbrev pub before_wire : Circuit → Waves → Corner → ℕ → Arc → Direct
 before_wire c ws corner p a d i n =
     if is_event c ws (event_before corner (period c.header) p (wire_at c.nets i) d i n)
     then Some (record {
-      passage = Through a.cause.pin (inward corner (wire_at c.nets i) n) a.delay (word_off n a.cause.word);
+      passage = Through a.cause.pin (inward corner (wire_at c.nets i) n) a.delay
+          (word_off n a.cause.word);
       event = event_before corner (period c.header) p (wire_at c.nets i) d i n;
     })
     else None
 
 abbrev pub before_target : Circuit → Waves → Corner → ℕ → Arc → Bool → Target → Option Before
 before_target c ws corner p a inverted (OnNet i) =
-    first_some (before_wire c ws corner p a (turned inverted a.cause.direction) i) (choices (wire_at c.nets i)) 0
+    first_some (before_wire c ws corner p a (turned inverted a.cause.direction) i)
+    (choices (wire_at c.nets i)) 0
 before_target c ws corner p a inverted (Constant b) = None
 
 abbrev pub before_pin : Circuit → Waves → Corner → ℕ → Arc → Option Pin → Option Before
@@ -198,7 +207,8 @@ cut_off net other after slot =
 abbrev pub is_cut_by : Circuit → Waves → Instance → Corner → Split → Before → Bool
 is_cut_by c ws j corner s b =
     is_event c ws b.event
-    && is_some (arc_with c ws j corner (turned j.out_inverted b.event.direction) b.event.slot s is_tight)
+    && is_some (arc_with c ws j corner (turned j.out_inverted b.event.direction) b.event.slot s
+    is_tight)
 
 abbrev pub cut_at : Circuit → Waves → Instance → Corner → Split → Before → Option Before
 cut_at c ws j corner s b = if is_cut_by c ws j corner s b then Some b else None
@@ -211,20 +221,25 @@ cut_by c ws j corner net slot s other =
     (cut_at c ws j corner s (cut_off net other (negsuc 0) (back (period c.header) (slot + 1) 0))))
 
 -- A rise of the driver's own output is cut off by a fall, and a fall by a rise.
-abbrev pub cut_own : Circuit → Waves → Instance → Corner → Event → Direction → Split → Direction → Option Before
+abbrev pub cut_own : Circuit → Waves → Instance → Corner → Event → Direction → Split → Direction →
+    Option Before
 cut_own c ws j corner e d s own =
-    if asks d own then cut_by c ws j corner e.net e.slot s (turned j.out_inverted (opposite own)) else None
+    if asks d own then cut_by c ws j corner e.net e.slot s (turned j.out_inverted (opposite own))
+    else None
 
 abbrev pub cut : Circuit → Waves → Instance → Corner → Event → Direction → Split → Option Before
 cut c ws j corner e d s =
     option_or (cut_own c ws j corner e d s Rise) (cut_own c ws j corner e d s Fall)
 
--- With one delay, what causes it; with two, what ends at a corner, or else what cuts it off, or else any cause.
-abbrev pub before_by : Circuit → Waves → Instance → Corner → Event → Direction → Option Split → Option Before
+-- With one delay, what causes it; with two, what ends at a corner, or else what cuts it off, or
+-- else any cause.
+abbrev pub before_by : Circuit → Waves → Instance → Corner → Event → Direction → Option Split →
+    Option Before
 before_by c ws j corner e own None =
     option_and_then (before_arc c ws j corner e.slot) (arc_in c ws j corner own e.slot j.delay)
 before_by c ws j corner e own (Some s) =
-    option_or (option_and_then (before_arc c ws j corner e.slot) (firm_arc c ws j corner own e.slot s))
+    option_or (option_and_then (before_arc c ws j corner e.slot)
+    (firm_arc c ws j corner own e.slot s))
     (option_or (cut c ws j corner e own s)
     (option_and_then (before_arc c ws j corner e.slot) (free_arc c ws j corner own e.slot s)))
 

@@ -1,6 +1,6 @@
--- Ends of pulses: which event one came from, as waves are without their skew. Where one pin of an element moves, its
--- delay is the same at both ends, and takes nothing from a width.
-use Rattle.std.specs.Prelude.{ℕ, zero, suc, ◌+◌, ◌==◌, Bool, true, false, not, ◌&&◌, ◌||◌, List, [], ◌∷◌, filter, length, map, slice_get, if◌then◌else◌, Option, Some, None}
+-- Ends of pulses: which event one came from, as waves are without their skew. Where one pin of an
+-- element moves, its delay is the same at both ends, and takes nothing from a width.
+use Rattle.std.specs.Prelude.{ℕ, zero, suc, Bool, true, false, not, ◌&&◌, ◌||◌, List, [], ◌∷◌, filter, length, map, slice_get, if◌then◌else◌, Option, Some, None}
 use Rattle.std.specs.List.{range_with_len}
 use Rattle.std.specs.Option.{option_map, option_and_then}
 use Rattle.scald_base.specs.Clock.{back}
@@ -26,7 +26,7 @@ use Rattle.critical_paths.specs.declared.direction.Direction.TheVariants.{Rise, 
 use Rattle.critical_paths.specs.declared.event.Reading.{Reading}
 use Rattle.critical_paths.specs.declared.event.Reading.TheVariants.{Folded, Unfolded}
 use Rattle.critical_paths.specs.declared.path.Word.{Word}
-use Rattle.critical_paths.specs.declared.path.Word.TheVariants.{Tight, Bounded, Loose, Inside, Same}
+use Rattle.critical_paths.specs.declared.path.Word.TheVariants.{Tight, Inside, Same}
 use Rattle.critical_paths.specs.declared.path.Passage.{Passage}
 use Rattle.critical_paths.specs.declared.path.Passage.TheVariants.{Through}
 use Rattle.critical_paths.specs.Event.{Event, moves, turned}
@@ -59,7 +59,8 @@ mover_by (Some marked) moving = Some marked
 mover_by None moving = only moving
 
 abbrev pub mover : Circuit → Waves → Instance → Option ℕ
-mover c ws j = mover_by (held_pin c ws j) (filter (is_moving c ws j) (range_with_len 0 (length j.pins)))
+mover c ws j = mover_by (held_pin c ws j) (filter (is_moving c ws j)
+    (range_with_len 0 (length j.pins)))
 
 -- ---- what makes an end
 
@@ -71,7 +72,8 @@ abbrev pub open_causes : Circuit → Waves → Instance → Direction → ℕ �
 open_causes c ws j d p i before after =
     has (value_of_pin (open_values c ws j p) i) before after
     && (is_change j.kind
-    || moves d (output_by (held_pin c ws j) j.kind (map has (open_values c ws j p)) i (one_step before after)))
+    || moves d (output_by (held_pin c ws j) j.kind (map has (open_values c ws j p)) i
+    (one_step before after)))
 
 -- of two directions the rise
 abbrev pub one_of : Bool → Bool → Option Direction
@@ -80,7 +82,8 @@ one_of false true = Some Fall
 one_of false false = None
 
 abbrev pub open_cause : Circuit → Waves → Instance → Direction → ℕ → ℕ → Option Direction
-open_cause c ws j d p i = one_of (open_causes c ws j d p i false true) (open_causes c ws j d p i true false)
+open_cause c ws j d p i = one_of (open_causes c ws j d p i false true)
+    (open_causes c ws j d p i true false)
 
 -- ---- delays
 
@@ -96,10 +99,14 @@ end_word (Some s) (suc n) = Inside
 
 -- ---- through the one pin that moves
 
-abbrev pub open_arc : Circuit → Waves → Instance → Corner → Direction → ℕ → Option Split → Bounds → ℕ → ℕ → Option Arc
+abbrev pub open_arc : Circuit → Waves → Instance → Corner → Direction → ℕ → Option Split → Bounds →
+    ℕ → ℕ → Option Arc
 open_arc c ws j corner d q two bounds i n =
     option_map
-    (λ own. record { cause = record { pin = i; direction = own; word = end_word two n }; delay = inward corner bounds n })
+    (λ own. record {
+      cause = record { pin = i; direction = own; word = end_word two n };
+      delay = inward corner bounds n;
+    })
     (open_cause c ws j d (back (period c.header) q (inward corner bounds n)) i)
 
 -- by the least wire
@@ -132,24 +139,32 @@ same_if_tight (Some s) word = word
 abbrev pub with_word : Option Split → Arc → Arc
 with_word two a =
     record {
-      cause = record { pin = a.cause.pin; direction = a.cause.direction; word = same_if_tight two a.cause.word };
+      cause = record {
+        pin = a.cause.pin;
+        direction = a.cause.direction;
+        word = same_if_tight two a.cause.word;
+      };
       delay = a.delay;
     }
 
 abbrev pub by_folds : Before → Read
 by_folds b = record { passage = b.passage; event = b.event; reading = Folded }
 
-abbrev pub before_many : Circuit → Waves → Instance → Corner → Direction → ℕ → Option Split → Bounds → Option Read
+abbrev pub before_many : Circuit → Waves → Instance → Corner → Direction → ℕ → Option Split →
+    Bounds → Option Read
 before_many c ws j corner d q two bounds =
     option_map by_folds
-    (option_and_then (λ a. before_arc c ws j corner q (with_word two a)) (arc_inward c ws j corner d q bounds 0))
+    (option_and_then (λ a. before_arc c ws j corner q (with_word two a))
+    (arc_inward c ws j corner d q bounds 0))
 
 -- ---- the event before
 
-abbrev pub read_by : Circuit → Waves → Instance → Corner → Direction → ℕ → Option Split → Bounds → Option ℕ → Option Read
+abbrev pub read_by : Circuit → Waves → Instance → Corner → Direction → ℕ → Option Split → Bounds →
+    Option ℕ → Option Read
 read_by c ws j corner d q two bounds None = before_many c ws j corner d q two bounds
 read_by c ws j corner d q two bounds (Some i) =
-    option_and_then (open_before c j q) (first_some (open_arc c ws j corner d q two bounds i) (choices bounds) 0)
+    option_and_then (open_before c j q) (first_some (open_arc c ws j corner d q two bounds i)
+    (choices bounds) 0)
 
 -- the event that an end of a pulse came from, on a net which this instance drives
 abbrev pub read_before : Circuit → Waves → Corner → Event → Instance → Option Read

@@ -1,5 +1,5 @@
 -- What the program's events, causes and links say, in the words of the definitions.
-use Rattle.std.specs.Prelude.{◌≡◌, not, ℕ, ◌+◌, ◌-◌, ◌<◌, ◌≤◌, ◌==◌, min, nat_lt, List, length, map, slice_get, slice_index_or, slice_set, Bool, true, false, is_some, Option, Some, None, ℤ, pos, ◌+ℤ◌, ◌-ℤ◌, if◌then◌else◌, ◌&&◌, ◌||◌}
+use Rattle.std.specs.Prelude.{◌≡◌, not, ℕ, ◌+◌, ◌-◌, ◌<◌, ◌≤◌, ◌==◌, min, nat_lt, List, length, map, slice_get, slice_set, Bool, true, is_some, Option, Some, None, ℤ, pos, negsuc, ◌+ℤ◌, ◌-ℤ◌, if◌then◌else◌, ◌&&◌, ◌||◌}
 use Rattle.std.specs.Option.{option_map, option_or}
 use Rattle.scald_base.specs.Time.{Bounds, period}
 use Rattle.step_values.specs.declared.value.Value.{Value}
@@ -41,7 +41,7 @@ use Rattle.critical_paths.specs.Event.{Event, Events, direction_by, moves, turne
 use Rattle.critical_paths.specs.Cause.{Cause, if_loose, output_by, output_steps}
 use Rattle.critical_paths.specs.Unfolded.{Read}
 use Rattle.critical_paths.specs.Region.{Region}
-use Rattle.critical_paths.specs.Path.{Arc, Before, choices, delay_to, event_before, inward, is_event}
+use Rattle.critical_paths.specs.Path.{Arc, Before, choices, cut_at, cut_off, delay_to, event_before, inward, is_event}
 
 -- the event of a tick, in a period of p
 abbrev pub event_of : ℕ → Told → Event
@@ -67,7 +67,8 @@ abbrev pub best_of : Causes → Option Cause
 best_of found =
     option_or (option_map (with_word Tight) found.whole)
     (option_or (option_map (with_word Tight) found.part)
-    (if_loose (λ other. option_map (with_word (Bounded other)) found.bound) (option_map (with_word Loose) found.loose)))
+    (if_loose (λ other. option_map (with_word (Bounded other)) found.bound)
+    (option_map (with_word Loose) found.loose)))
 
 abbrev pub arc_with_word : Delayed → Arc
 arc_with_word a = record { cause = cause_with (a.cause, a.word); delay = a.delay }
@@ -87,7 +88,10 @@ arc_off delay is_inside found =
 -- a pin that makes one
 abbrev pub arc_of : ℕ → Word → Pinned → Arc
 arc_of delay word found =
-    record { cause = record { pin = found.pin; direction = found.direction; word = word }; delay = delay }
+    record {
+      cause = record { pin = found.pin; direction = found.direction; word = word };
+      delay = delay;
+    }
 
 abbrev pub before_of : ℕ → Back → Before
 before_of p b = record { passage = b.passage; event = event_of p b.event }
@@ -103,10 +107,6 @@ ticks_of_region r = record { first = pos r.first; last = pos r.last }
 -- so many ticks later
 abbrev pub later_by : ℤ → Ticks → Ticks
 later_by ticks r = record { first = r.first +ℤ ticks; last = r.last +ℤ ticks }
-
--- in the first period in which it does not end before a tick: its last tick comes as soon from there on as its slot does
-abbrev pub reaching_of : ℕ → ℤ → Ticks → Ticks
-reaching_of p tick r = later_by ((tick +ℤ pos (slot_of p (r.last -ℤ tick))) -ℤ r.last) r
 
 -- ---- what is seen
 
@@ -131,7 +131,8 @@ shown Unfolded w p = cell_at values w.cells p
 abbrev pub target_shown : Circuit → Waves → Target → Wave Value
 target_shown c ws target = moved values (target_wave c.header ws target) (target_wire c.nets target)
 
--- by how many ticks more than its wire's least delay a net's step may show at a pin, in a period of p
+-- by how many ticks more than its wire's least delay a net's step may show at a pin, in a period of
+-- p
 abbrev pub reach_of : Reading → ℕ → Bounds → ℕ → ℕ
 reach_of Folded skew wire p = min (skew + (wire.max - wire.min)) (p - 1)
 reach_of Unfolded skew wire p = 0
@@ -162,7 +163,8 @@ behind_at c ws corner p d i n =
     else None
 
 abbrev pub behind : Circuit → Waves → Corner → ℕ → Direction → Target → Option Hidden
-behind c ws corner p d (OnNet i) = first_some (behind_at c ws corner p d i) (choices (wire_at c.nets i)) 0
+behind c ws corner p d (OnNet i) = first_some (behind_at c ws corner p d i)
+    (choices (wire_at c.nets i)) 0
 behind c ws corner p d (Constant bit) = None
 
 -- ---- a chosen step
@@ -173,14 +175,16 @@ choosing found pin before after = slice_set (map has found) pin (one_step before
 
 -- those of one pin
 abbrev pub chosen : List Value → ℕ → Bool → Bool → ℕ → Steps
-chosen found pin before after i = if i == pin then one_step before after else has (value_of_pin found i)
+chosen found pin before after i = if i == pin then one_step before after else has
+    (value_of_pin found i)
 
 -- the step of the pin makes a step of the output in this direction
 abbrev pub makes : Kind → List Value → ℕ → Bool → Bool → Direction → Bool
 makes kind found pin before after d =
     is_change kind || moves d (output_steps kind (listening kind (choosing found pin before after)))
 
--- The pin may make the step, and it makes one of the output. A pin that alone counts is heard alone.
+-- The pin may make the step, and it makes one of the output. A pin that alone counts is heard
+-- alone.
 abbrev pub may_make : Option ℕ → Kind → List Value → ℕ → Bool → Bool → Direction → Bool
 may_make held kind found pin before after d =
     has (value_of_pin found pin) before after
@@ -209,7 +213,8 @@ MayHold None kind = Unit {0}
 MayHold (Some marked) kind = may_be_marked kind ≡ true
 
 -- What is asked of its driver for an event: the step of its own output, at the same tick.
-pub record IsAskedOf (tick : ℤ) (corner : Corner) (direction : Direction) (j : Instance) (e : Told) : Type 0 where
+pub record IsAskedOf (tick : ℤ) (corner : Corner) (direction : Direction) (j : Instance)
+    (e : Told) : Type 0 where
   pub same_tick : e.tick ≡ tick
   pub same_corner : e.corner ≡ corner
   pub own : turned j.out_inverted e.direction ≡ direction
@@ -221,3 +226,16 @@ delay_by one d (Some s) = delay_to s d
 
 abbrev pub delay_of_step : Instance → Direction → Bounds
 delay_of_step j d = delay_by j.delay d j.split
+
+-- ---- what cuts an event short
+
+-- the other step of a net, at a tick, at the one before it or at the one after
+abbrev pub cut_near : Circuit → Waves → Instance → Corner → ℕ → ℤ → Split → Direction →
+    Option Before
+cut_near c ws j corner net tick s other =
+    option_or (cut_at c ws j corner s
+    (cut_off net other (pos 0) (slot_of (period c.header) (tick -ℤ pos 0))))
+    (option_or (cut_at c ws j corner s
+    (cut_off net other (pos 1) (slot_of (period c.header) (tick -ℤ pos 1))))
+    (cut_at c ws j corner s
+    (cut_off net other (negsuc 0) (slot_of (period c.header) (tick -ℤ negsuc 0)))))

@@ -22,7 +22,7 @@ use Rattle.critical_paths.specs.declared.path.Passage.{Passage}
 use Rattle.critical_paths.specs.declared.path.Origin.{Origin}
 use Rattle.critical_paths.specs.declared.path.Origin.TheVariants.{Input, Level, Earlier}
 use Rattle.critical_paths.specs.Event.{Event, same_direction, turned}
-use Rattle.critical_paths.specs.Path.{Before, End, Link, Loop, Nothing, Path, Source, before, choices, event_before, inward, is_event}
+use Rattle.critical_paths.specs.Path.{End, Link, Loop, Nothing, Path, Source, before, choices, event_before, inward, is_event}
 use Rattle.critical_paths.specs.Unfolded.{Read, by_folds, read_before}
 
 -- ---- stops
@@ -101,7 +101,8 @@ path_from c ws (suc left) seen s =
     if list_any (same_stop s) seen then ending s Loop
     else path_after s (λ before. path_from c ws left (s ∷ seen) before) (origin_of c ws s)
 
--- how many events there are, one for each net, slot and direction, and how many stops: each is read in two ways
+-- how many events there are, one for each net, slot and direction, and how many stops: each is read
+-- in two ways
 abbrev pub event_count : Circuit → ℕ
 event_count c = 3 * (period c.header * length c.nets)
 
@@ -111,7 +112,8 @@ stop_count c = 6 * (period c.header * length c.nets)
 unfoldable pub path_of_stop : Circuit → Waves → Stop → Path
 path_of_stop c ws s = path_from c ws (stop_count c + 1) [] s
 
--- the path back from an event: late from a last slot by the greatest delays, or early from a first slot by the least
+-- the path back from an event: late from a last slot by the greatest delays, or early from a first
+-- slot by the least
 abbrev pub path_of : Circuit → Waves → Corner → Event → Path
 path_of c ws corner e = path_of_stop c ws (stop_of c corner Folded e)
 

@@ -2,7 +2,6 @@
 //! over all ways, whatever else the elements on them do.
 
 ghost use Rattle.std.specs.Prelude.{◌≡◌, ◌^◌, ◌<◌, ◌≤◌, length, IfOk, IfSome, OnOk, None, true};
-ghost use Rattle.flat_circuit.specs.Circuit.{driver as driver_of};
 ghost use Rattle.fixpoint_engine.specs.Waves.{waves_of};
 ghost use Rattle.critical_paths.specs.Tick.{IsWithin};
 ghost use Rattle.critical_paths.specs.Told.{Grows, IsShort, Knows};
@@ -11,9 +10,8 @@ ghost use Rattle.critical_paths.specs.Views.{Sees};
 use crate::back::own_delay;
 use crate::direction::{Corner, Direction};
 use crate::event::{Reading, Stop};
-use crate::near::Near;
-use crate::path::{Node, Passage, Paths, Word, source};
-use crate::region::{Region, Test, slots_of};
+use crate::gather::{AllReached, Reached};
+use crate::path::{Passage, Paths, Word};
 use crate::view::View;
 use fixpoint_engine::wire_behind;
 use flat_circuit::{Circuit, Instance, Kind, Target};
@@ -21,15 +19,12 @@ use scald_base::{Delay, NoMemory};
 use step_values::Value;
 use wave_core::CyclicWave;
 
-/// More events than any way has on which no net comes twice: there are at most 65,536 nets.
-const LONGEST: usize = 0x100_0000;
-
 /// As often as a place is begun or ended: once each, where a clock and an end have three places for
 /// each of at most 65,536 nets.
 const STEPS: u32 = 2 * 3 * 65_536;
 
 /// The steps of a net, and the end of them that is asked for, by the edges of a clock.
-#[derive(Clone, Copy, PartialEq, Eq, Hash, Debug)]
+#[derive(Clone, Copy, PartialEq, Eq, Hash)]
 pub struct Place {
     pub clock: u32,
     pub net: u32,
@@ -39,7 +34,7 @@ pub struct Place {
 
 impl Place {
     /// The event of its net in a slot.
-    fn stop(self, slot: u16) -> Stop
+    pub(crate) fn stop(self, slot: u16) -> Stop
         ensures net { result.net ≡ self.net }
         ensures slot { result.slot ≡ slot }
     {
@@ -54,7 +49,7 @@ impl Place {
 }
 
 /// When an edge comes to a net: the tick of the ideal edge, that at the net, and the way.
-#[derive(Clone, Copy, PartialEq, Eq, Debug)]
+#[derive(Clone, Copy)]
 pub struct Arrival {
     pub ideal: i64,
     pub tick: i64,
@@ -96,7 +91,7 @@ fn bound_of(corner: Corner, delay: &Delay) -> u16 {
 }
 
 /// The place behind a pin that an element listens to, and by what the steps come from there.
-fn place_behind(
+pub(crate) fn place_behind(
     circuit: &Circuit,
     element: &Instance,
     place: Place,
@@ -130,7 +125,7 @@ fn place_behind(
 }
 
 /// Whether a place is at the clock itself.
-fn is_at_clock<W: CyclicWave<Item = Value>>(view: &View<W>, place: Place) -> bool
+pub(crate) fn is_at_clock<W: CyclicWave<Item = Value>>(view: &View<W>, place: Place) -> bool
     ensures { result ≡ true → place.net < length view.now.circuit.now.nets }
 {
     match view.circuit.net(place.net) {
@@ -141,250 +136,33 @@ fn is_at_clock<W: CyclicWave<Item = Value>>(view: &View<W>, place: Place) -> boo
 
 impl Paths {
     /// What is known of a place.
-    fn known(&self, place: Place) -> Option<Known> {
+    pub(crate) fn known(&self, place: Place) -> Option<Known> {
         self.known.get(&place).copied()
     }
 
-    /// An event that comes from that of a number, unless there is none or its path is longer than
-    /// any can be.
-    fn after(&self, stop: Stop, passage: Passage, next: usize) -> Option<Node>
-        requires { IsShort passage }
-    {
-        let before = self.nodes.get(next)?;
-        if before.count > LONGEST {
-            return None;
-        }
-        if before.age.unsigned_abs() > 131_072 * before.count as u64 {
-            return None;
-        }
-        Some(self.before(stop, passage, next))
-    }
-
-    /// The place from one on at which the arrival of an edge stands.
-    fn place_of(&self, from: usize, ideal: i64) -> Option<usize>
-        ensures { IfSome result (λ at. at < length self.now.arrivals) }
-    {
-        for at in from..self.arrivals.len() {
-            if self.arrivals.as_slice()[at].ideal == ideal {
-                return Some(at);
-            }
-        }
-        None
-    }
-
     /// Appends an arrival and its event.
-    fn append(&mut self, event: Node, found: Near) -> Result<(), NoMemory>
+    fn append(&mut self, reached: Reached) -> Result<(), NoMemory>
         ensures grows { OnOk result (Grows self.old.nodes self.new.nodes) }
         ensures met { OnOk result (self.new.met.entries ≡ self.old.met.entries) }
     {
-        self.nodes.push(event)?;
-        self.arrivals.push(found)?;
+        let number = self.nodes.len();
+        self.nodes.push(reached.event)?;
+        self.arrivals.push(reached.near.numbered(number))?;
         Ok(())
     }
 
-    /// Puts an arrival in the place of another, and appends its event.
-    fn replace(&mut self, at: usize, event: Node, found: Near) -> Result<(), NoMemory>
-        requires { at < length self.old.arrivals }
-        ensures grows { OnOk result (Grows self.old.nodes self.new.nodes) }
-        ensures met { OnOk result (self.new.met.entries ≡ self.old.met.entries) }
-    {
-        self.arrivals.set(at, found);
-        self.nodes.push(event)?;
-        Ok(())
-    }
-
-    /// Appends an arrival that comes by a passage to those from one place on, or puts it in the
-    /// place of one of its edge that is not as far.
-    #[tactic(auto, using(crate::proofs::Arriving::grows_none))]
-    fn merge(
-        &mut self,
-        from: usize,
-        stop: Stop,
-        passage: Passage,
-        behind: Near,
-    ) -> Result<(), NoMemory>
-        requires { IsShort passage }
-        ensures grows { OnOk result (Grows self.old.nodes self.new.nodes) }
-        ensures met { OnOk result (self.new.met.entries ≡ self.old.met.entries) }
-    {
-        // no way is too long for these
-        let Some(found) = behind.later(passage.ticks(), self.nodes.len()) else {
-            return Ok(());
-        };
-        let Some(event) = self.after(stop, passage, behind.node) else {
-            return Ok(());
-        };
-        let Some(at) = self.place_of(from, found.ideal) else {
-            return self.append(event, found);
-        };
-        let old = self.arrivals.as_slice()[at].tick;
-        if stop.corner.is_further(found.tick, old) {
-            self.replace(at, event, found)
-        } else {
-            Ok(())
-        }
-    }
-
-    /// Appends the arrival of an edge of the clock at the clock itself.
-    #[tactic(auto, using(crate::proofs::Arriving::grows_none))]
-    fn add_edge<W: CyclicWave<Item = Value>>(
-        &mut self,
-        view: &View<W>,
-        place: Place,
-        region: Region,
-    ) -> Result<(), NoMemory>
-        requires { driver_of view.now.circuit.now place.net ≡ None }
-        ensures grows { OnOk result (Grows self.old.nodes self.new.nodes) }
-        ensures met { OnOk result (self.new.met.entries ≡ self.old.met.entries) }
-    {
-        let tick = match place.corner {
-            Corner::Late => region.last,
-            Corner::Early => region.first,
-        };
-        let stop = place.stop(view.slot(tick));
-        let event = source(view, stop);
-        // no edge of a period is far
-        let Some(found) = Near::begun(tick, event.age, self.nodes.len()) else {
-            return Ok(());
-        };
-        self.append(event, found)
-    }
-
-    /// Appends the arrivals at the clock itself.
-    fn add_edges<W: CyclicWave<Item = Value>>(
-        &mut self,
-        view: &View<W>,
-        place: Place,
-    ) -> Result<(), NoMemory>
-        requires sees { Sees view.now.circuit.now view.now.waves.now view.now.hazards.now }
-        requires net { place.net < length view.now.circuit.now.nets }
-        requires input { driver_of view.now.circuit.now place.net ≡ None }
-        ensures grows { OnOk result (Grows self.old.nodes self.new.nodes) }
-        ensures met { OnOk result (self.new.met.entries ≡ self.old.met.entries) }
-    {
-        let fold = view.waves.at(place.net).folded(view.alloc)?;
-        let changes = slots_of(view.alloc, &fold, Test::May(place.direction))?;
-        // what may change in every slot has no region, and so no edge
-        for region in changes.regions.as_slice() {
-            self.add_edge(view, place, *region)?;
-        }
-        Ok(())
-    }
-
-    /// Appends that of a number by a passage, if the net may make such a step at its tick.
-    #[tactic(auto, using(crate::proofs::Arriving::grows_none))]
-    fn add_one<W: CyclicWave<Item = Value>>(
-        &mut self,
-        view: &View<W>,
-        place: Place,
-        from: usize,
-        passage: Passage,
-        number: usize,
-    ) -> Result<(), NoMemory>
-        requires sees { Sees view.now.circuit.now view.now.waves.now view.now.hazards.now }
-        requires net { place.net < length view.now.circuit.now.nets }
-        requires passage { IsShort passage }
-        ensures grows { OnOk result (Grows self.old.nodes self.new.nodes) }
-        ensures met { OnOk result (self.new.met.entries ≡ self.old.met.entries) }
-    {
-        let Some(arrival) = self.arrivals.get(number).copied() else {
-            return Ok(());
-        };
-        let tick = arrival.tick_after(passage.ticks());
-        if view.permits(place.net, place.direction, tick) {
-            let stop = place.stop(view.slot(tick));
-            self.merge(from, stop, passage, arrival)
-        } else {
-            Ok(())
-        }
-    }
-
-    /// Appends those that come through a pin from the place behind it.
-    #[tactic(auto, using(crate::proofs::Arriving::grows_none))]
-    fn add_through<W: CyclicWave<Item = Value>>(
-        &mut self,
-        view: &View<W>,
-        place: Place,
-        from: usize,
-        behind: Place,
-        passage: Passage,
-    ) -> Result<(), NoMemory>
-        requires sees { Sees view.now.circuit.now view.now.waves.now view.now.hazards.now }
-        requires net { place.net < length view.now.circuit.now.nets }
-        requires passage { IsShort passage }
-        ensures grows { OnOk result (Grows self.old.nodes self.new.nodes) }
-        ensures met { OnOk result (self.new.met.entries ≡ self.old.met.entries) }
-    {
-        let Some(Known::Done(first, past)) = self.known(behind) else {
-            return Ok(());
-        };
-        for number in first..past {
-            self.add_one(view, place, from, passage, number)?;
-        }
-        Ok(())
-    }
-
-    /// Appends those that come through a pin of the driver of a place's net.
-    #[tactic(auto, using(crate::proofs::Arriving::grows_none))]
-    fn add_pin<W: CyclicWave<Item = Value>>(
-        &mut self,
-        view: &View<W>,
-        element: &Instance,
-        place: Place,
-        from: usize,
-        number: usize,
-    ) -> Result<(), NoMemory>
-        requires sees { Sees view.now.circuit.now view.now.waves.now view.now.hazards.now }
-        requires net { place.net < length view.now.circuit.now.nets }
-        ensures grows { OnOk result (Grows self.old.nodes self.new.nodes) }
-        ensures met { OnOk result (self.new.met.entries ≡ self.old.met.entries) }
-    {
-        match place_behind(view.circuit, element, place, number) {
-            Some((behind, passage)) => self.add_through(view, place, from, behind, passage),
-            None => Ok(()),
-        }
-    }
-
-    /// Appends those that come through each pin of the driver of a place's net.
-    fn add_pins<W: CyclicWave<Item = Value>>(
-        &mut self,
-        view: &View<W>,
-        element: &Instance,
-        place: Place,
-    ) -> Result<(), NoMemory>
-        requires sees { Sees view.now.circuit.now view.now.waves.now view.now.hazards.now }
-        requires net { place.net < length view.now.circuit.now.nets }
+    /// Makes arrivals known at a place.
+    fn append_all(&mut self, place: Place, found: &[Reached]) -> Result<(), NoMemory>
         ensures grows { OnOk result (Grows self.old.nodes self.new.nodes) }
         ensures met { OnOk result (self.new.met.entries ≡ self.old.met.entries) }
     {
         let from = self.arrivals.len();
-        for number in 0..element.pins.len() {
-            self.add_pin(view, element, place, from, number)?;
+        for reached in found {
+            self.append(*reached)?;
         }
+        let past = self.arrivals.len();
+        self.known.insert(place, Known::Done(from, past))?;
         Ok(())
-    }
-
-    /// Appends the arrivals at a place, from those at the places behind its pins.
-    #[tactic(auto, using(crate::proofs::Arriving::grows_none))]
-    fn add_all<W: CyclicWave<Item = Value>>(
-        &mut self,
-        view: &View<W>,
-        place: Place,
-    ) -> Result<(), NoMemory>
-        requires { Sees view.now.circuit.now view.now.waves.now view.now.hazards.now }
-        ensures grows { OnOk result (Grows self.old.nodes self.new.nodes) }
-        ensures met { OnOk result (self.new.met.entries ≡ self.old.met.entries) }
-    {
-        match view.driver(place.net) {
-            Some((_, element)) => self.add_pins(view, element, place),
-            None => {
-                if is_at_clock(view, place) {
-                    self.add_edges(view, place)
-                } else {
-                    Ok(())
-                }
-            }
-        }
     }
 
     /// Works a place out of those behind its pins.
@@ -397,11 +175,9 @@ impl Paths {
         ensures grows { OnOk result (Grows self.old.nodes self.new.nodes) }
         ensures met { OnOk result (self.new.met.entries ≡ self.old.met.entries) }
     {
-        let from = self.arrivals.len();
-        self.add_all(view, place)?;
-        let past = self.arrivals.len();
-        self.known.insert(place, Known::Done(from, past))?;
-        Ok(())
+        let mut found = AllReached::new(view.alloc);
+        self.add_all(view, place, &mut found)?;
+        self.append_all(place, found.as_slice())
     }
 
     /// The first place behind a pin from this one on that is not worked out, with the number of the
@@ -482,7 +258,8 @@ impl Paths {
 
     /// Where the arrivals stand that are known at a place.
     fn range(&self, place: Place) -> Option<(usize, usize)>
-        ensures { IfSome result (λ range. (range.0 ≤ range.1) × (range.1 ≤ length self.now.arrivals)) }
+        ensures { IfSome result (λ range. (range.0 ≤ range.1) ×
+            (range.1 ≤ length self.now.arrivals)) }
     {
         let Some(Known::Done(from, past)) = self.known(place) else {
             return None;

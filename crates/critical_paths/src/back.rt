@@ -1,21 +1,21 @@
 //! One link back: from a step of an element's output to that of the net which makes it.
 
-ghost use Rattle.std.specs.Prelude.{◌≡◌, ◌+◌, ◌-◌, ◌*◌, ℤ, ◌-ℤ◌, ◌<◌, ◌≤◌, length, slice_get, IfOk, None, Some, is_some, true, if◌then◌else◌};
+ghost use Rattle.std.specs.Prelude.{◌≡◌, ℕ, ◌+◌, ◌*◌, ◌<◌, ◌≤◌, length, slice_get, IfOk, None, Some, is_some, true, if◌then◌else◌};
 ghost use Rattle.std.specs.Option.{option_and_then, option_map, option_or};
 ghost use Rattle.scald_base.specs.Time.{period};
 ghost use Rattle.flat_circuit.specs.declared.split.Split.{Split};
 ghost use Rattle.fixpoint_engine.specs.Waves.{waves_of};
 ghost use Rattle.critical_paths.specs.Tick.{IsWithin, most_tick, slot_of};
-ghost use Rattle.critical_paths.specs.Event.{is_step, turned};
-ghost use Rattle.critical_paths.specs.Path.{arc_in, arc_inward, asks, before as before_of_event, before_arc, cut as cut_of, cut_at, cut_by, cut_off, cut_own, if_word, inner_arc as inner_arc_of, is_bounded, is_cut_by, is_tight};
-ghost use Rattle.critical_paths.specs.Views.{IsAskedOf, Sees, arc_off, arc_with_word, before_of, cause_with, delay_of_step, event_of};
+ghost use Rattle.critical_paths.specs.Path.{arc_in, arc_inward, asks, before as before_of_event, before_arc, cut as cut_of, if_word, inner_arc as inner_arc_of, is_bounded, is_tight};
+ghost use Rattle.critical_paths.specs.Unfolded.{by_folds};
+ghost use Rattle.critical_paths.specs.Views.{IsAskedOf, Sees, arc_off, arc_with_word, before_of, cause_with, delay_of_step, event_of, read_of};
 
 use crate::cause::{Asked, Cause};
 use crate::direction::Direction;
-use crate::event::{Event, PinEvent, sooner};
+use crate::event::{Event, PinEvent, Reading, sooner};
 use crate::path::{Passage, Word};
 use crate::view::View;
-use flat_circuit::{Instance, Pin, Split};
+use flat_circuit::{Instance, Pin};
 use scald_base::{Delay, NoMemory};
 use step_values::Value;
 use wave_core::CyclicWave;
@@ -76,21 +76,8 @@ fn arc_by(found: Option<(Cause, Word)>, delay: u16, is_inside: bool) -> Option<A
     }
 }
 
-/// The other step of a net, where it cuts one short.
-fn cut_by_event(is_cut: bool, late: i8, event: Event) -> Option<Back>
-    ensures { result ≡ (if is_cut then Some
-        (record { passage = Passage.Cut late; event = event }) else None) }
-{
-    if is_cut {
-        let passage = Passage::Cut(late);
-        Some(Back { passage, event })
-    } else {
-        None
-    }
-}
-
 /// The pin, if what makes the step ends there too.
-fn tight(found: Option<Arc>) -> Option<Arc>
+pub(crate) fn tight(found: Option<Arc>) -> Option<Arc>
     ensures { option_map arc_with_word result ≡ if_word is_tight (option_map arc_with_word found) }
 {
     match found {
@@ -122,13 +109,19 @@ fn firm(rise: Option<Arc>, fall: Option<Arc>) -> Option<Arc>
     making.or(bounding)
 }
 
-/// The tick so many ticks before one.
-fn beside(tick: i64, late: i8) -> i64
-    requires { IsWithin most_tick tick }
-    ensures is { result ≡ tick -ℤ late }
-    ensures near { IsWithin (2 * most_tick) result }
+/// What an event comes by, where the event before it is read by folds.
+pub fn folded(found: Option<Back>) -> Option<Back>
+    ensures { (p : ℕ) →
+        option_map (read_of p) result ≡ option_map by_folds (option_map (before_of p) found) }
 {
-    tick - i64::from(late)
+    let Back { passage, event } = found?;
+    Some(Back {
+        passage,
+        event: Event {
+            reading: Reading::Folded,
+            ..event
+        },
+    })
 }
 
 impl<'a, W: CyclicWave<Item = Value>> View<'a, W> {
@@ -219,7 +212,7 @@ impl<'a, W: CyclicWave<Item = Value>> View<'a, W> {
 
     /// What makes steps of one of two directions at the bound of their own delay, where they are
     /// asked for.
-    fn step_arc(&self, asked: Asked, step: Direction) -> Result<Option<Arc>, NoMemory>
+    pub(crate) fn step_arc(&self, asked: Asked, step: Direction) -> Result<Option<Arc>, NoMemory>
         requires sees { Sees self.now.circuit.now self.now.waves.now self.now.hazards.now }
         requires is { slice_get self.now.circuit.now.instances asked.number
             ≡ Some asked.element.now }
@@ -311,132 +304,45 @@ impl<'a, W: CyclicWave<Item = Value>> View<'a, W> {
         Ok(inner)
     }
 
-    /// Whether the step that is asked for may come there, and ends at the bound of its own delay.
-    fn cuts(&self, asked: Asked, net: u32) -> Result<bool, NoMemory>
-        requires sees { Sees self.now.circuit.now self.now.waves.now self.now.hazards.now }
-        requires is { slice_get self.now.circuit.now.instances asked.number
-            ≡ Some asked.element.now }
-        requires net { net < length self.now.circuit.now.nets }
-        requires tick { IsWithin (2 * most_tick) asked.tick }
-        requires step { is_step asked.direction ≡ true }
-        ensures { let c = self.now.circuit.now in let j = asked.entry.element.now in
-            (s : Split) → (after : ℤ) → j.split ≡ Some s →
-            IfOk result (λ may. may ≡ is_cut_by c
-            (waves_of self.now.waves.now) j asked.entry.corner s
-            (cut_off net (turned j.out_inverted asked.entry.direction) after
-            (slot_of (period c.header) asked.entry.tick))) }
-    {
-        let direction = asked.direction.turned(asked.element.out_inverted);
-        if !self.permits(net, direction, asked.tick) {
-            return Ok(false);
-        }
-        let found = self.step_arc(asked, asked.direction)?;
-        let making = tight(found);
-        Ok(making.is_some())
-    }
-
-    /// The other step of a net so many ticks before one, if it cuts that one short.
-    fn cutter_at(
+    /// What ends at its bound, if there is such a thing, or else what cuts an event short, or else
+    /// what goes on, or is inside of the bounds.
+    fn or_else(
         &self,
         asked: Asked,
         event: Event,
-        other: Direction,
-        late: i8,
+        ended: Option<Back>,
+        steps: (Option<Arc>, Option<Arc>),
     ) -> Result<Option<Back>, NoMemory>
         requires sees { Sees self.now.circuit.now self.now.waves.now self.now.hazards.now }
         requires is { slice_get self.now.circuit.now.instances asked.number
             ≡ Some asked.element.now }
         requires net { event.net < length self.now.circuit.now.nets }
+        requires asked { IsWithin most_tick asked.tick }
         requires tick { IsWithin most_tick event.tick }
-        requires other { is_step other ≡ true }
-        ensures { let c = self.now.circuit.now in let j = asked.entry.element.now in
+        ensures { let c = self.now.circuit.now in let ws = waves_of self.now.waves.now in
+            let j = asked.entry.element.now in let corner = asked.entry.corner in
+            let q = slot_of (period c.header) asked.entry.tick in
+            let inner = inner_arc_of c ws j corner asked.entry.direction q in
+            let told = option_map arc_with_word in
             (s : Split) → j.split ≡ Some s →
             IfOk result (λ found. option_map (before_of (period c.header)) found
-            ≡ cut_at c (waves_of self.now.waves.now) j asked.entry.corner s
-            (cut_off event.net (turned j.out_inverted other) late
-            (slot_of (period c.header) (event.tick -ℤ late)))) }
+            ≡ option_or (option_map (before_of (period c.header)) ended)
+            (option_or (cut_of c ws j corner (event_of (period c.header) event)
+            asked.entry.direction s)
+            (option_and_then (before_arc c ws j corner q)
+            (option_or (option_or (told steps.0) (told steps.1))
+            (option_or (inner s Direction.Rise) (inner s Direction.Fall)))))) }
     {
-        let tick = beside(event.tick, late);
-        let cutting = asked.at(other, tick);
-        let is_cut = self.cuts(cutting, event.net)?;
-        let direction = other.turned(asked.element.out_inverted);
-        let there = event.at(direction, tick);
-        Ok(cut_by_event(is_cut, late, there))
-    }
-
-    /// What cuts a step short: the other step, at the tick or beside it.
-    fn cutter_near(
-        &self,
-        asked: Asked,
-        event: Event,
-        other: Direction,
-    ) -> Result<Option<Back>, NoMemory>
-        requires sees { Sees self.now.circuit.now self.now.waves.now self.now.hazards.now }
-        requires is { slice_get self.now.circuit.now.instances asked.number
-            ≡ Some asked.element.now }
-        requires net { event.net < length self.now.circuit.now.nets }
-        requires tick { IsWithin most_tick event.tick }
-        requires other { is_step other ≡ true }
-        ensures { let c = self.now.circuit.now in let j = asked.entry.element.now in
-            (s : Split) → j.split ≡ Some s →
-            IfOk result (λ found. option_map (before_of (period c.header)) found
-            ≡ cut_by c (waves_of self.now.waves.now) j asked.entry.corner event.net
-            (slot_of (period c.header) event.tick) s (turned j.out_inverted other)) }
-    {
-        self.circuit.header().known();
-        let here = self.cutter_at(asked, event, other, 0)?;
-        if here.is_some() {
-            return Ok(here);
+        if ended.is_some() {
+            return Ok(ended);
         }
-        let before = self.cutter_at(asked, event, other, 1)?;
-        if before.is_some() {
-            return Ok(before);
+        let cut = self.cut(asked, event)?;
+        if cut.is_some() {
+            return Ok(cut);
         }
-        let after = self.cutter_at(asked, event, other, -1)?;
-        Ok(after)
-    }
-
-    /// The same of one of two steps, where it is asked for.
-    fn cutter(&self, asked: Asked, event: Event, step: Direction) -> Result<Option<Back>, NoMemory>
-        requires sees { Sees self.now.circuit.now self.now.waves.now self.now.hazards.now }
-        requires is { slice_get self.now.circuit.now.instances asked.number
-            ≡ Some asked.element.now }
-        requires net { event.net < length self.now.circuit.now.nets }
-        requires tick { IsWithin most_tick event.tick }
-        requires step { is_step step ≡ true }
-        ensures { let c = self.now.circuit.now in
-            (s : Split) → asked.entry.element.now.split ≡ Some s →
-            IfOk result (λ found. option_map (before_of (period c.header)) found
-            ≡ cut_own c (waves_of self.now.waves.now) asked.entry.element.now asked.entry.corner
-            (event_of (period c.header) event) asked.entry.direction s step) }
-    {
-        if !asked.direction.has(step) {
-            return Ok(None);
-        }
-        let other = step.turned(true);
-        let found = self.cutter_near(asked, event, other)?;
-        Ok(found)
-    }
-
-    /// The same of either: a fall cuts a rise short, and a rise a fall.
-    fn cut(&self, asked: Asked, event: Event) -> Result<Option<Back>, NoMemory>
-        requires sees { Sees self.now.circuit.now self.now.waves.now self.now.hazards.now }
-        requires is { slice_get self.now.circuit.now.instances asked.number
-            ≡ Some asked.element.now }
-        requires net { event.net < length self.now.circuit.now.nets }
-        requires tick { IsWithin most_tick event.tick }
-        ensures { let c = self.now.circuit.now in
-            (s : Split) → asked.entry.element.now.split ≡ Some s →
-            IfOk result (λ found. option_map (before_of (period c.header)) found
-            ≡ cut_of c (waves_of self.now.waves.now) asked.entry.element.now asked.entry.corner
-            (event_of (period c.header) event) asked.entry.direction s) }
-    {
-        let by_fall = self.cutter(asked, event, Direction::Rise)?;
-        if by_fall.is_some() {
-            return Ok(by_fall);
-        }
-        let by_rise = self.cutter(asked, event, Direction::Fall)?;
-        Ok(by_rise)
+        let free = self.free(asked, steps.0, steps.1)?;
+        let rest = self.through_some(asked, free);
+        Ok(rest)
     }
 
     /// What makes an event through one of two delays: what ends at its bound, or else what cuts it
@@ -459,16 +365,8 @@ impl<'a, W: CyclicWave<Item = Value>> View<'a, W> {
         let fall = self.step_arc(asked, Direction::Fall)?;
         let firm = firm(rise, fall);
         let ended = self.through_some(asked, firm);
-        if ended.is_some() {
-            return Ok(ended);
-        }
-        let cut = self.cut(asked, event)?;
-        if cut.is_some() {
-            return Ok(cut);
-        }
-        let free = self.free(asked, rise, fall)?;
-        let rest = self.through_some(asked, free);
-        Ok(rest)
+        let found = self.or_else(asked, event, ended, (rise, fall))?;
+        Ok(found)
     }
 
     /// By what an event of an element's output comes, or `None` where nothing makes it.

@@ -1,6 +1,6 @@
 //! Which pin of an element makes a step of its output the last one, or the first.
 
-ghost use Rattle.std.specs.Prelude.{◌≡◌, ◌+◌, ◌-◌, ◌*◌, ◌-ℤ◌, ◌<◌, ◌&&◌, not, length, slice_get, IfOk, Some, true, false, pos};
+ghost use Rattle.std.specs.Prelude.{◌≡◌, ◌-◌, ◌*◌, ◌-ℤ◌, ◌<◌, ◌&&◌, not, length, slice_get, IfOk, Some, true, false, pos};
 ghost use Rattle.std.specs.Option.{option_map, option_or};
 ghost use Rattle.scald_base.specs.Time.{period};
 ghost use Rattle.step_values.specs.Cell.{values as cells};

@@ -9,14 +9,15 @@ ghost use Rattle.critical_paths.specs.Walk.{event_at, link};
 
 use crate::direction::Direction;
 use crate::event::Stop;
-use crate::path::{At, End, Node, Passage, Paths, Word, node_at};
+use crate::path::{At, End, Node, Passage, Paths, Word};
+use crate::steps::node_at;
 use fixpoint_engine::wire_behind;
 use flat_circuit::{Circuit, Instance};
 use scald_base::{AssertSpec, Delay, List, NoMemory};
 use std::alloc::Global;
 
 /// What is one constant in a run.
-#[derive(Clone, Copy, PartialEq, Eq, Debug)]
+#[derive(Clone, Copy, PartialEq, Eq)]
 pub enum Part {
     /// The delay of an instance.
     Delay(u32),
@@ -31,7 +32,7 @@ pub enum Part {
 }
 
 /// A part, and by how many ticks its most is above its least.
-#[derive(Clone, Copy, PartialEq, Eq, Debug)]
+#[derive(Clone, Copy)]
 pub struct Counted {
     pub part: Part,
     pub amount: u32,

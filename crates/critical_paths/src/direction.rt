@@ -11,7 +11,7 @@ use scald_base::Delay;
 use step_values::{StepSet, Value, steps};
 
 /// Which steps of a net are asked for.
-#[derive(Clone, Copy, PartialEq, Eq, Hash, Debug)]
+#[derive(Clone, Copy, PartialEq, Eq, Hash)]
 pub enum Direction {
     /// From 0 to 1.
     Rise,
@@ -82,7 +82,7 @@ impl Direction {
 }
 
 /// Which end of a region a path explains.
-#[derive(Clone, Copy, PartialEq, Eq, Hash, Debug)]
+#[derive(Clone, Copy, PartialEq, Eq, Hash)]
 pub enum Corner {
     /// The last tick: everything takes as long as it may.
     Late,

@@ -36,7 +36,8 @@ impl<'a, W: CyclicWave<Item = Value>> View<'a, W> {
         stop: Stop,
     ) -> Option<i64>
         requires { stop.slot < period_of self.now.circuit.now.header }
-        ensures is { result ≡ offset_if_edge self.now.circuit.now.header corner stop.direction stop.slot clock.now skew }
+        ensures is { result ≡ offset_if_edge self.now.circuit.now.header corner stop.direction
+            stop.slot clock.now skew }
         ensures near { IfSome result (IsNear 65535) }
     {
         // no slot is far from the first, since no period is long

@@ -7,7 +7,7 @@ use crate::direction::{Corner, Direction};
 use flat_circuit::Pin;
 
 /// As what waves are read.
-#[derive(Clone, Copy, PartialEq, Eq, Hash, Debug)]
+#[derive(Clone, Copy, PartialEq, Eq, Hash)]
 pub enum Reading {
     /// However late they come.
     Folded,
@@ -16,7 +16,7 @@ pub enum Reading {
 }
 
 /// A step of a net at a tick of any period.
-#[derive(Clone, Copy, PartialEq, Eq, Hash, Debug)]
+#[derive(Clone, Copy)]
 pub struct Event {
     pub net: u32,
     pub direction: Direction,
@@ -39,7 +39,7 @@ impl Event {
 }
 
 /// A step of a pin at a tick.
-#[derive(Clone, Copy, PartialEq, Eq, Debug)]
+#[derive(Clone, Copy)]
 pub struct PinEvent {
     pub pin: Pin,
     pub direction: Direction,
@@ -48,7 +48,7 @@ pub struct PinEvent {
 }
 
 /// An event in its slot, where a path passes or ends.
-#[derive(Clone, Copy, PartialEq, Eq, Hash, Debug)]
+#[derive(Clone, Copy, PartialEq, Eq, Hash)]
 pub struct Stop {
     pub net: u32,
     pub direction: Direction,

@@ -25,7 +25,8 @@ fn allows(
     after: bool,
 ) -> bool
     ensures { result ≡ set_reset set reset
-        (if is_latch then latch_rule takes input before after else (takes || agree before after)) after }
+        (if is_latch then latch_rule takes input before after else (takes || agree before after))
+        after }
 {
     match (set, reset) {
         (true, false) => after,
@@ -40,7 +41,8 @@ fn allows(
 /// The steps that it allows.
 fn stored(is_latch: bool, takes: bool, input: bool, set: bool, reset: bool) -> StepSet
     ensures { IsSet result (λ before after. set_reset set reset
-        (if is_latch then latch_rule takes input before after else (takes || agree before after)) after) }
+        (if is_latch then latch_rule takes input before after else (takes || agree before after))
+        after) }
 {
     StepSet::of(
         allows(is_latch, takes, input, set, reset, false, false),
@@ -189,7 +191,8 @@ impl<'a> Choice<'a> {
     /// The steps of a pin.
     fn steps(self, place: usize) -> StepSet
         requires { place < length self.values.now }
-        ensures { IsSet result (chosen self.entry.values.now self.entry.pin self.entry.step.before self.entry.step.after place) }
+        ensures { IsSet result (chosen self.entry.values.now self.entry.pin self.entry.step.before
+            self.entry.step.after place) }
     {
         if place == self.pin {
             StepSet::one_if(true, self.step.before, self.step.after)
@@ -203,7 +206,8 @@ impl<'a> Choice<'a> {
         requires { 0 < length self.values.now }
         ensures { IsSet result (made_from_left
             (λ a a' b b'. rule_of kind a a' b b' false false false false)
-            (choosing self.entry.values.now self.entry.pin self.entry.step.before self.entry.step.after)) }
+            (choosing self.entry.values.now self.entry.pin self.entry.step.before
+            self.entry.step.after)) }
     {
         let mut met = self.steps(0);
         for place in 1..self.values.len() {
@@ -216,7 +220,8 @@ impl<'a> Choice<'a> {
     fn of_two(self, select: usize, input: usize) -> StepSet
         requires select { select < length self.values.now }
         requires inputs { input + 1 < length self.values.now }
-        ensures { let s = chosen self.entry.values.now self.entry.pin self.entry.step.before self.entry.step.after in
+        ensures { let s = chosen self.entry.values.now self.entry.pin self.entry.step.before
+            self.entry.step.after in
             IsSet result (mux (s select) (s input) (s (input + 1))) }
     {
         let (first, second) = (self.steps(input), self.steps(input + 1));
@@ -227,7 +232,8 @@ impl<'a> Choice<'a> {
     fn of_four(self, select: usize, input: usize) -> StepSet
         requires selects { select + 1 < length self.values.now }
         requires inputs { input + 3 < length self.values.now }
-        ensures { let s = chosen self.entry.values.now self.entry.pin self.entry.step.before self.entry.step.after in
+        ensures { let s = chosen self.entry.values.now self.entry.pin self.entry.step.before
+            self.entry.step.after in
             IsSet result (mux (s select) (mux (s (select + 1)) (s input) (s (input + 1)))
             (mux (s (select + 1)) (s (input + 2)) (s (input + 3)))) }
     {
@@ -239,7 +245,8 @@ impl<'a> Choice<'a> {
     /// What three selects make of eight inputs.
     fn of_eight(self) -> StepSet
         requires { 10 < length self.values.now }
-        ensures { let s = chosen self.entry.values.now self.entry.pin self.entry.step.before self.entry.step.after in
+        ensures { let s = chosen self.entry.values.now self.entry.pin self.entry.step.before
+            self.entry.step.after in
             IsSet result (mux (s 0) (mux (s 1) (mux (s 2) (s 3) (s 4)) (mux (s 2) (s 5) (s 6)))
             (mux (s 1) (mux (s 2) (s 7) (s 8)) (mux (s 2) (s 9) (s 10)))) }
     {
@@ -250,7 +257,8 @@ impl<'a> Choice<'a> {
     /// What a register makes of its clock.
     fn reg(self) -> StepSet
         requires { 0 < length self.values.now }
-        ensures { let s = chosen self.entry.values.now self.entry.pin self.entry.step.before self.entry.step.after in
+        ensures { let s = chosen self.entry.values.now self.entry.pin self.entry.step.before
+            self.entry.step.after in
             IsSet result (made1 reg_of (s 0)) }
     {
         let zero = low();
@@ -260,7 +268,8 @@ impl<'a> Choice<'a> {
     /// What a register makes of its clock, set and reset.
     fn reg_rs(self) -> StepSet
         requires { 3 < length self.values.now }
-        ensures { let s = chosen self.entry.values.now self.entry.pin self.entry.step.before self.entry.step.after in
+        ensures { let s = chosen self.entry.values.now self.entry.pin self.entry.step.before
+            self.entry.step.after in
             IsSet result (made3 reg_rs_step (s 0) (s 2) (s 3)) }
     {
         let (set, reset) = (self.steps(2), self.steps(3));
@@ -270,7 +279,8 @@ impl<'a> Choice<'a> {
     /// What a latch makes of its enable and input.
     fn latch(self) -> StepSet
         requires { 1 < length self.values.now }
-        ensures { let s = chosen self.entry.values.now self.entry.pin self.entry.step.before self.entry.step.after in
+        ensures { let s = chosen self.entry.values.now self.entry.pin self.entry.step.before
+            self.entry.step.after in
             IsSet result (made2 latch_of (s 0) (s 1)) }
     {
         let (enable, input, zero) = (self.steps(0), self.steps(1), low());
@@ -280,7 +290,8 @@ impl<'a> Choice<'a> {
     /// What a latch makes of its enable, input, set and reset.
     fn latch_rs(self) -> StepSet
         requires { 3 < length self.values.now }
-        ensures { let s = chosen self.entry.values.now self.entry.pin self.entry.step.before self.entry.step.after in
+        ensures { let s = chosen self.entry.values.now self.entry.pin self.entry.step.before
+            self.entry.step.after in
             IsSet result (made4 latch_rs_step (s 0) (s 1) (s 2) (s 3)) }
     {
         let (enable, input) = (self.steps(0), self.steps(1));
@@ -293,7 +304,8 @@ impl<'a> Choice<'a> {
 fn made_of(kind: Kind, choice: Choice) -> StepSet
     requires { IsCount kind (length choice.values.now) }
     ensures { IsSet result (output_steps kind (listening kind
-        (choosing choice.entry.values.now choice.entry.pin choice.entry.step.before choice.entry.step.after))) }
+        (choosing choice.entry.values.now choice.entry.pin choice.entry.step.before
+        choice.entry.step.after))) }
 {
     match kind {
         Kind::Buf => choice.steps(0),
@@ -315,7 +327,8 @@ fn made_of(kind: Kind, choice: Choice) -> StepSet
 /// with some choice of steps of the other pins. A change function passes every change on.
 pub fn makes(kind: Kind, choice: Choice, wanted: Direction) -> bool
     requires { IsCount kind (length choice.values.now) }
-    ensures { result ≡ makes_by kind choice.entry.values.now choice.entry.pin choice.entry.step.before choice.entry.step.after wanted }
+    ensures { result ≡ makes_by kind choice.entry.values.now choice.entry.pin
+        choice.entry.step.before choice.entry.step.after wanted }
 {
     if kind.is_change() {
         return true;

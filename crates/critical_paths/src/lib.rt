@@ -8,7 +8,8 @@
 //! constant of a run.
 //!
 //! `specs/Event` says what the events of a wave are and `specs/Region` their regions, `specs/Cause`
-//! which steps of pins make a step of an output, `specs/Path` which link follows from an event, `specs/Unfolded` that of an end of a pulse, `specs/Walk` where that leads in the end,
+//! which steps of pins make a step of an output, `specs/Path` which link follows from an event,
+//! `specs/Unfolded` that of an end of a pulse, `specs/Walk` where that leads in the end,
 //! `specs/Launch` from which edge of a clock a path comes, and `specs/Common` what two paths count
 //! twice.
 #![tactic(auto)]
@@ -22,16 +23,23 @@ mod view;
 // one link
 mod back;
 mod cause;
+mod cut;
 mod image;
 mod open;
+mod origin;
 
 // paths
+mod begin;
+mod edge;
+mod path;
+mod steps;
+mod walk;
+
+// what is made of them
 mod arrival;
 mod common;
-mod edge;
+mod gather;
 mod near;
-mod path;
-mod walk;
 
 // what holds of the definitions
 mod laws;

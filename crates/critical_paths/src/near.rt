@@ -1,6 +1,6 @@
 //! Arrivals near the first period.
 
-ghost use Rattle.std.specs.Prelude.{◌≡◌, ◌^◌, IfSome};
+ghost use Rattle.std.specs.Prelude.{◌^◌};
 ghost use Rattle.critical_paths.specs.Tick.{IsWithin};
 ghost use Rattle.critical_paths.specs.Told.{IsNear};
 
@@ -31,8 +31,8 @@ impl Near {
     }
 
     /// The arrival of an edge that lies so many ticks before it.
-    pub(crate) fn begun(tick: i64, age: i64, node: usize) -> Option<Near> {
-        Near::at(tick.checked_sub(age)?, tick, node)
+    pub(crate) fn begun(tick: i64, age: i64) -> Option<Near> {
+        Near::at(tick.checked_sub(age)?, tick, 0)
     }
 
     /// The tick so many later.
@@ -43,10 +43,19 @@ impl Near {
     }
 
     /// The same edge so many ticks later, unless that is too far.
-    pub(crate) fn later(self, ticks: i64, node: usize) -> Option<Near>
+    pub(crate) fn later(self, ticks: i64) -> Option<Near>
         requires { IsNear 131072 ticks }
     {
-        Near::at(self.ideal, self.tick_after(ticks), node)
+        Near::at(self.ideal, self.tick_after(ticks), self.node)
+    }
+
+    /// The same with an event of this number.
+    pub(crate) fn numbered(self, node: usize) -> Near {
+        Near {
+            ideal: self.ideal,
+            tick: self.tick,
+            node,
+        }
     }
 
     /// What the layers above see of it.

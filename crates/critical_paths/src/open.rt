@@ -1,7 +1,7 @@
 //! One link back from an end of a pulse, in waves whose skew is not folded in: the begin is late,
 //! the end early.
 
-ghost use Rattle.std.specs.Prelude.{◌≡◌, ℕ, ◌+◌, ◌<◌, ◌≤◌, ◌*◌, ◌||◌, length, slice_get, IfOk, IfSome, None, Some, is_some, if◌then◌else◌};
+ghost use Rattle.std.specs.Prelude.{◌≡◌, ◌+◌, ◌<◌, ◌≤◌, ◌*◌, ◌||◌, length, slice_get, IfOk, IfSome, None, Some, is_some, if◌then◌else◌};
 ghost use Rattle.std.specs.Option.{option_and_then, option_map, option_or};
 ghost use Rattle.scald_base.specs.Time.{period};
 ghost use Rattle.gate_eval.specs.Hold.{first_some};
@@ -9,10 +9,10 @@ ghost use Rattle.fixpoint_engine.specs.Waves.{waves_of};
 ghost use Rattle.critical_paths.specs.Path.{choices, is_tight};
 ghost use Rattle.critical_paths.specs.Cause.{held_pin as held_of_all};
 ghost use Rattle.critical_paths.specs.Tick.{IsWithin, most_tick, slot_of};
-ghost use Rattle.critical_paths.specs.Unfolded.{before_many, by_folds, end_delay as end_delay_of, end_word as end_word_of, is_moving as is_moving_pin, mover as mover_of, one_of, open_arc, open_before, open_cause, read_by, same_if_tight, with_word};
-ghost use Rattle.critical_paths.specs.Views.{Sees, arc_of, arc_with_word, before_of, read_of};
+ghost use Rattle.critical_paths.specs.Unfolded.{before_many, end_delay as end_delay_of, end_word as end_word_of, is_moving as is_moving_pin, mover as mover_of, one_of, open_arc, open_before, open_cause, read_by, same_if_tight, with_word};
+ghost use Rattle.critical_paths.specs.Views.{Sees, arc_of, arc_with_word, read_of};
 
-use crate::back::{Arc, Back, own_delay, pin_at};
+use crate::back::{Arc, Back, folded, own_delay, pin_at};
 use crate::cause::{Asked, Cause, made_by};
 use crate::direction::Direction;
 use crate::event::{Event, Reading, sooner};
@@ -146,19 +146,6 @@ impl Movers {
     {
         if self.others { None } else { self.first }
     }
-}
-
-/// The event, from where on the path goes by folds.
-fn folded(found: Option<Back>) -> Option<Back>
-    ensures { (p : ℕ) → option_map (read_of p) result
-        ≡ option_map by_folds (option_map (before_of p) found) }
-{
-    let Back { passage, event } = found?;
-    let event = Event {
-        reading: Reading::Folded,
-        ..event
-    };
-    Some(Back { passage, event })
 }
 
 impl<'a, W: CyclicWave<Item = Value>> View<'a, W> {

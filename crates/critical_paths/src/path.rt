@@ -1,14 +1,12 @@
 //! Paths: each event that was met once, with what leads on from it.
 
-ghost use Rattle.std.specs.Prelude.{◌≡◌, ◌+◌, ◌-◌, ◌*◌, ◌^◌, ◌<◌, ◌≤◌, ◌++◌, ◌∷◌, [], drop, length, slice_get, IfOk, IfSome, MatchOption, OnOk, None, Some, false, IsTrue};
+ghost use Rattle.std.specs.Prelude.{◌≡◌, ◌+◌, ◌-◌, ◌*◌, ◌^◌, ◌<◌, ◌≤◌, ◌++◌, ◌∷◌, [], drop, length, slice_get, IfOk, MatchOption, OnOk, None, Some, false};
 ghost use Rattle.std.specs.Option.{option_map};
 ghost use Rattle.scald_base.specs.Time.{period as period_of};
-ghost use Rattle.flat_circuit.specs.Circuit.{Circuit};
 ghost use Rattle.fixpoint_engine.specs.Waves.{waves_of};
 ghost use Rattle.critical_paths.specs.Launch.{ticks_of};
-ghost use Rattle.critical_paths.specs.Told.{AreShort, Has, IsNear, IsShort, IsShortNode, IsShortPath, Tells, ago_in, are_met, begin_in, edge_in, node_before, path_told, step_at, steps_from, ticks_along, ticks_by, way_of};
-ghost use Rattle.critical_paths.specs.Views.{Sees};
-ghost use Rattle.critical_paths.specs.Walk.{origin_of, path_of_stop, same_stop};
+ghost use Rattle.critical_paths.specs.Told.{AreShort, Has, IsNear, IsShort, IsShortNode, Tells, are_met, node_before, ticks_along};
+ghost use Rattle.critical_paths.specs.Walk.{origin_of, same_stop};
 
 use crate::arrival::{Known, Place};
 use crate::direction::Direction;
@@ -22,7 +20,7 @@ use step_values::Value;
 use wave_core::CyclicWave;
 
 /// How surely a link goes on from the one before.
-#[derive(Clone, Copy, PartialEq, Eq, Hash, Debug)]
+#[derive(Clone, Copy, PartialEq, Eq, Hash)]
 pub enum Word {
     /// The delay is at its bound, and what makes the event ends there too.
     Tight,
@@ -37,7 +35,7 @@ pub enum Word {
 }
 
 /// By what an event comes from the one before it.
-#[derive(Clone, Copy, PartialEq, Eq, Hash, Debug)]
+#[derive(Clone, Copy, PartialEq, Eq, Hash)]
 pub enum Passage {
     /// Through a pin of the net's driver, by its wire and the driver's delay, in ticks.
     Through {
@@ -64,7 +62,7 @@ impl Passage {
 }
 
 /// From what an event comes.
-#[derive(Clone, Copy, PartialEq, Eq, Debug)]
+#[derive(Clone, Copy)]
 pub enum Origin {
     /// Nothing drives its net.
     Input,
@@ -75,7 +73,7 @@ pub enum Origin {
 }
 
 /// Where a path ends.
-#[derive(Clone, Copy, PartialEq, Eq, Hash, Debug)]
+#[derive(Clone, Copy, PartialEq, Eq, Hash)]
 pub enum End {
     /// At an edge of a clock.
     Edge,
@@ -104,27 +102,7 @@ pub struct Node {
     pub(crate) age: i64,
 }
 
-/// The most ticks from 0 to where a path may begin.
-const MOST_TICKS: u64 = 1 << 60;
-
-/// The most events of a path.
-const MOST_EVENTS: usize = 1 << 40;
-
-/// Whether a number lies within so many of 0.
-fn is_near(most: u64, number: i64) -> bool
-    ensures { IsTrue result → IsNear most number }
-{
-    number.unsigned_abs() <= most
-}
-
 impl Node {
-    /// Whether neither its events nor their ticks are too many.
-    fn is_short(&self) -> bool
-        ensures { IsTrue result → IsShortNode (Some self.now) }
-    {
-        self.count <= MOST_EVENTS && is_near(131_072 * self.count as u64, self.age)
-    }
-
     /// An event at which a path ends.
     pub(crate) fn last(stop: Stop, end: End, age: i64) -> Node
         ensures { result ≡ record {
@@ -154,7 +132,7 @@ pub type Nodes = List<Node>;
 
 /// A path: the number of its event, the tick of that at its net, and the ticks of the wire to the
 /// pin at which it shows.
-#[derive(Clone, Copy, PartialEq, Eq, Debug)]
+#[derive(Clone, Copy)]
 pub struct At {
     pub node: usize,
     pub tick: i64,
@@ -226,38 +204,6 @@ pub(crate) fn ticks_from(chain: &Chain, first: usize) -> i64
     ticks
 }
 
-/// The node at a place of a way.
-pub(crate) fn node_at(way: &[Node], place: usize) -> Node
-    requires { place < length way.now }
-    ensures { slice_get way.now place ≡ Some result }
-{
-    way[place]
-}
-
-/// The step of an event on a path, at its tick.
-fn step_at(node: Node, tick: i64) -> Step
-    ensures { result ≡ step_at tick node }
-{
-    let Stop { net, direction, .. } = node.stop;
-    Step {
-        net,
-        direction,
-        passage: node.passage,
-        tick,
-    }
-}
-
-/// What an event takes from the one before it, in ticks; where there is none, nothing.
-fn taken(passage: Option<Passage>) -> i64
-    ensures is { result ≡ ticks_by passage }
-    ensures near { IsNear 131072 result }
-{
-    match passage {
-        Some(passage) => passage.ticks(),
-        None => 0,
-    }
-}
-
 impl Paths {
     /// No paths.
     pub fn new(alloc: Global) -> Paths
@@ -294,97 +240,6 @@ impl Paths {
         ensures { slice_get self.now.nodes number ≡ Some result }
     {
         self.nodes.as_slice()[number]
-    }
-
-    /// Whether a path is one of these, and neither its tick nor its begin is far off.
-    pub fn has(&self, at: At) -> bool
-        ensures { IsTrue result → (at.node < length self.now.nodes) × IsShortPath self.now.nodes at }
-    {
-        match self.nodes.get(at.node) {
-            Some(node) => is_near(MOST_TICKS, at.tick) && node.is_short(),
-            None => false,
-        }
-    }
-
-    /// The tick at which a path begins: that of its ideal edge, or of its last event.
-    pub fn begin(&self, at: At) -> i64
-        requires node { at.node < length self.now.nodes }
-        requires near { IsShortPath self.now.nodes at }
-        ensures is { Some result ≡ begin_in self.now.nodes at }
-        ensures near { IsNear (2 ^ 61) result }
-    {
-        at.tick - self.node(at.node).age
-    }
-
-    /// The clock that a path comes from, and the tick of the edge.
-    pub fn edge(&self, at: At) -> Option<(u32, i64)>
-        requires node { at.node < length self.now.nodes }
-        requires near { IsShortPath self.now.nodes at }
-        ensures is { result ≡ edge_in self.now.nodes at }
-        ensures near { IfSome result (λ edge. IsNear (2 ^ 61) edge.1) }
-    {
-        let node = self.node(at.node);
-        if node.end == End::Edge {
-            Some((node.source, self.begin(at)))
-        } else {
-            None
-        }
-    }
-
-    /// How many ticks before the clock the data is launched, where both come from one clock.
-    pub fn ago(&self, data: At, clock: At) -> Option<i64>
-        requires own { «data».node < length self.now.nodes }
-        requires clock { clock.node < length self.now.nodes }
-        requires near_data { IsShortPath self.now.nodes «data» }
-        requires near_clock { IsShortPath self.now.nodes clock }
-        ensures { result ≡ ago_in (edge_in self.now.nodes «data») (edge_in self.now.nodes clock) }
-    {
-        let (net, launched) = self.edge(data)?;
-        let (other, edge) = self.edge(clock)?;
-        if net == other {
-            Some(edge - launched)
-        } else {
-            None
-        }
-    }
-
-    /// The nodes of a path, from its event back.
-    pub fn way(&self, alloc: Global, number: usize) -> Result<Nodes, NoMemory>
-        requires { number < length self.now.nodes }
-        ensures { IfOk result (λ way. way ≡ way_of self.now.nodes number) }
-    {
-        let first = self.node(number);
-        let mut way = Nodes::new(alloc);
-        way.push(first)?;
-        let mut next = first.next;
-        for _ in 1..first.count {
-            match self.nodes.get(next) {
-                Some(node) => {
-                    next = node.next;
-                    way.push(*node)?;
-                }
-                None => return Ok(way),
-            }
-        }
-        Ok(way)
-    }
-
-    /// The steps of a path.
-    pub fn steps(&self, alloc: Global, at: At) -> Result<Steps, NoMemory>
-        requires node { at.node < length self.now.nodes }
-        requires near { IsShortPath self.now.nodes at }
-        ensures { IfOk result (λ s. s ≡ steps_from at.tick (way_of self.now.nodes at.node)) }
-    {
-        let way = self.way(alloc, at.node)?;
-        let nodes = way.as_slice();
-        let mut steps = Steps::new(alloc);
-        let mut tick = at.tick;
-        for place in 0..nodes.len() {
-            let node = node_at(nodes, place);
-            steps.push(step_at(node, tick))?;
-            tick -= taken(node.passage);
-        }
-        Ok(steps)
     }
 
     /// Appends an event, and gives its number.

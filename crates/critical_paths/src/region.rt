@@ -1,10 +1,10 @@
 //! Regions: slots in a row in which something may happen.
 
-ghost use Rattle.std.specs.Prelude.{◌≡◌, ◌+◌, ◌-◌, ◌*◌, ◌^◌, ◌<◌, ◌==◌, ◌&&◌, ◌+ℤ◌, ◌-ℤ◌, pos, not, length, map, IfOk, None, Some, if◌then◌else◌};
-ghost use Rattle.critical_paths.specs.Tick.{IsWithin, most_tick, slot_of};
+ghost use Rattle.std.specs.Prelude.{◌≡◌, ◌+◌, ◌-◌, ◌*◌, ◌^◌, ◌<◌, ◌==◌, ◌&&◌, pos, not, length, map, IfOk, None, Some, if◌then◌else◌};
+ghost use Rattle.critical_paths.specs.Tick.{IsWithin, most_tick};
 ghost use Rattle.critical_paths.specs.Event.{is_first};
 ghost use Rattle.critical_paths.specs.Region.{all_events, region_from, regions};
-ghost use Rattle.critical_paths.specs.Views.{later_by, passes, passing, reaching_of, ticks_of_region};
+ghost use Rattle.critical_paths.specs.Views.{later_by, passes, passing, ticks_of_region};
 
 use crate::direction::Direction;
 use scald_base::{List, NoMemory};
@@ -43,33 +43,8 @@ impl Test {
     }
 }
 
-/// The slot of a tick of any period.
-fn slot_in(period: u16, tick: i64) -> u16
-    requires { 0 < period }
-    ensures { result ≡ slot_of period tick }
-{
-    tick.rem_euclid(i64::from(period)) as u16
-}
-
-/// By how many ticks one comes after another.
-fn ticks_from(tick: i64, to: i64) -> i64
-    requires tick { IsWithin (2 * most_tick) tick }
-    requires to { IsWithin (2 * most_tick) to }
-    ensures { result ≡ to -ℤ tick }
-{
-    to - tick
-}
-
-/// The tick so many later.
-fn tick_after(tick: i64, ticks: u16) -> i64
-    requires { IsWithin most_tick tick }
-    ensures { result ≡ tick +ℤ pos ticks }
-{
-    tick + i64::from(ticks)
-}
-
 /// Ticks in a row, the first in the first period. It comes again each period.
-#[derive(Clone, Copy, PartialEq, Eq, Debug)]
+#[derive(Clone, Copy, PartialEq, Eq)]
 pub struct Region {
     pub first: i64,
     pub last: i64,
@@ -87,20 +62,6 @@ impl Region {
             first: self.first + ticks,
             last: self.last + ticks,
         }
-    }
-
-    /// The same in the first period in which it does not end before a tick.
-    pub fn reaching(self, period: u16, tick: i64) -> Region
-        requires period { 0 < period }
-        requires first { IsWithin most_tick self.first }
-        requires last { IsWithin most_tick self.last }
-        requires tick { IsWithin most_tick tick }
-        ensures { result ≡ reaching_of period tick self }
-    {
-        let after = slot_in(period, ticks_from(tick, self.last));
-        let end = tick_after(tick, after);
-        let ticks = ticks_from(self.last, end);
-        self.later(ticks)
     }
 
     /// So many ticks from one on.
@@ -140,7 +101,8 @@ impl Slots {
 fn region_at<W: CyclicWave<Item = Value>>(wave: &W, test: Test, slot: u16) -> Option<Region>
     requires { slot < length (W.cells wave.now) }
     ensures { let p = length (W.cells wave.now) in let ev = passing test (W.cells wave.now) in
-        result ≡ (if is_first p ev slot then Some (ticks_of_region (region_from p ev slot)) else None) }
+        result ≡ (if is_first p ev slot then Some (ticks_of_region (region_from p ev slot)) else
+        None) }
 {
     let period = wave.period();
     if !test.holds(wave.at(slot)) || test.holds(wave.at((slot + (period - 1)) % period)) {

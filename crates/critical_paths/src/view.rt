@@ -1,6 +1,6 @@
 //! What nets and pins may do at a tick, by the settled waves of a case.
 
-ghost use Rattle.std.specs.Prelude.{◌≡◌, ◌+◌, ◌-◌, ◌*◌, ◌%◌, ◌<◌, ◌≤◌, ◌+ℤ◌, pos, length, map, min, slice_get, IfNone, IfSome, IfOk, None, Some, true, false, if◌then◌else◌};
+ghost use Rattle.std.specs.Prelude.{◌≡◌, ◌+◌, ◌-◌, ◌*◌, ◌<◌, ◌≤◌, ◌+ℤ◌, pos, length, min, slice_get, IfNone, IfSome, IfOk, None, Some, true, if◌then◌else◌};
 ghost use Rattle.std.specs.List.{All};
 ghost use Rattle.std.specs.Option.{option_map};
 ghost use Rattle.scald_base.specs.Time.{period as period_of};
@@ -196,7 +196,8 @@ impl<'a, W: CyclicWave<Item = Value>> View<'a, W> {
         ensures is { let c = self.now.circuit.now in
             option_map (hidden (period_of c.header)) result
             ≡ behind_pin c (waves_of self.now.waves.now) at.corner
-            (slot_of (period_of c.header) at.tick) (turned at.pin.inverted at.direction) at.pin.target }
+            (slot_of (period_of c.header) at.tick) (turned at.pin.inverted at.direction)
+            at.pin.target }
         ensures net { IfSome result (λ b. b.event.net < length self.now.circuit.now.nets) }
         ensures corner { IfSome result (λ b. b.event.corner ≡ at.corner) }
         ensures reading { IfSome result (λ b. b.event.reading ≡ Reading.Folded) }

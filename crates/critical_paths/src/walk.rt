@@ -1,24 +1,20 @@
 //! Walks back from an event, along what is not known yet.
 
-ghost use Rattle.std.specs.Prelude.{◌≡◌, ℕ, ◌+◌, ◌-◌, ◌+ℤ◌, ◌<◌, ◌≤◌, ◌^◌, length, nat_lt, pos, slice_get, if◌then◌else◌, IfOk, IfSome, OnOk, None, Some, []};
+ghost use Rattle.std.specs.Prelude.{◌≡◌, ◌+◌, ◌-◌, ◌+ℤ◌, ◌<◌, ◌≤◌, ◌^◌, length, nat_lt, pos, if◌then◌else◌, IfOk, IfSome, OnOk, None, Some, []};
 ghost use Rattle.std.specs.Option.{option_and_then, option_map};
 ghost use Rattle.scald_base.specs.Time.{period as period_of};
 ghost use Rattle.fixpoint_engine.specs.Waves.{waves_of};
 ghost use Rattle.critical_paths.specs.Launch.{edge_of};
-ghost use Rattle.critical_paths.specs.Told.{AreApart, AreNew, AreStops, Grows, Has, IsBegun, IsHalt, IsNear, IsNumbered, IsRound, IsShortPath, IsStop, IsWalked, Knows, Leads, LeadsWithin, Walked, edge_in, path_at, path_told, stop_after, told_edge};
+ghost use Rattle.critical_paths.specs.Told.{AreApart, AreNew, AreStops, Grows, Has, IsBegun, IsHalt, IsNear, IsNumbered, IsRound, IsShortPath, IsStop, IsWalked, Knows, Leads, Walked, edge_in, path_at, path_told, stop_after, told_edge};
 ghost use Rattle.critical_paths.specs.Tick.{IsWithin, most_tick, slot_of};
-ghost use Rattle.critical_paths.specs.Unfolded.{by_folds};
-ghost use Rattle.critical_paths.specs.Views.{IsPin, Sees, before_of, event_of, read_of};
-ghost use Rattle.critical_paths.specs.Walk.{end_pin_path, origin_of, path_of_stop, pin_path_on, read_at, stop_of};
+ghost use Rattle.critical_paths.specs.Views.{IsPin, Sees, event_of};
+ghost use Rattle.critical_paths.specs.Walk.{end_pin_path, path_of_stop, pin_path_on, stop_of};
 
-use crate::back::Back;
-use crate::cause::Asked;
-use crate::direction::Corner;
 use crate::event::{Event, PinEvent, Reading, Stop};
 use crate::path::{At, Chain, End, Halt, Node, Origin, Paths, source, ticks_from};
 use crate::view::View;
 use fixpoint_engine::wire_behind;
-use flat_circuit::{Instance, Target};
+use flat_circuit::Target;
 use scald_base::NoMemory;
 use step_values::Value;
 use wave_core::CyclicWave;
@@ -35,21 +31,6 @@ fn next_in_round(base: usize, first: usize, place: usize, past: usize) -> usize
     } else {
         base
     }
-}
-
-/// What an event comes by, where the event before it is read by folds.
-pub(crate) fn folded(found: Option<Back>) -> Option<Back>
-    ensures { (p : ℕ) →
-        option_map (read_of p) result ≡ option_map by_folds (option_map (before_of p) found) }
-{
-    let Back { passage, event } = found?;
-    Some(Back {
-        passage,
-        event: Event {
-            reading: Reading::Folded,
-            ..event
-        },
-    })
 }
 
 impl Paths {
@@ -227,100 +208,6 @@ impl Paths {
 }
 
 impl<'a, W: CyclicWave<Item = Value>> View<'a, W> {
-    /// An event in its slot. What a change function drives is read by folds.
-    fn stop(&self, event: Event) -> Stop
-        ensures is { let c = self.now.circuit.now in
-            result ≡ stop_of c event.corner event.reading (event_of (period_of c.header) event) }
-        ensures within { result.slot < period_of self.now.circuit.now.header }
-    {
-        let reading = match self.driver(event.net) {
-            Some((_, element)) if element.kind.is_change() => Reading::Folded,
-            _ => event.reading,
-        };
-        let Event {
-            net,
-            direction,
-            tick,
-            corner,
-            ..
-        } = event;
-        Stop {
-            net,
-            direction,
-            slot: self.slot(tick),
-            corner,
-            reading,
-        }
-    }
-
-    /// The same of another end of a region.
-    fn stop_at(&self, corner: Corner, event: Event) -> Stop
-        ensures { let c = self.now.circuit.now in
-            result ≡ stop_of c corner event.reading (event_of (period_of c.header) event) }
-    {
-        self.stop(Event { corner, ..event })
-    }
-
-    /// By what an event of an element's output comes, and the event before it, as it is read.
-    fn read_back(
-        &self,
-        stop: Stop,
-        number: u32,
-        element: &Instance,
-    ) -> Result<Option<Back>, NoMemory>
-        requires sees { Sees self.now.circuit.now self.now.waves.now self.now.hazards.now }
-        requires is { slice_get self.now.circuit.now.instances number ≡ Some element.now }
-        requires net { stop.net < length self.now.circuit.now.nets }
-        requires slot { stop.slot < period_of self.now.circuit.now.header }
-        ensures { let c = self.now.circuit.now in IfOk result (λ found.
-            option_map (read_of (period_of c.header)) found
-            ≡ read_at c (waves_of self.now.waves.now) stop element.now stop.reading) }
-    {
-        let tick = i64::from(stop.slot);
-        let asked = Asked {
-            number,
-            element,
-            direction: stop.direction.turned(element.out_inverted),
-            tick,
-            corner: stop.corner,
-        };
-        match stop.reading {
-            Reading::Folded => {
-                let event = Event {
-                    net: stop.net,
-                    direction: stop.direction,
-                    tick,
-                    corner: stop.corner,
-                    reading: Reading::Folded,
-                };
-                let found = self.back(asked, event)?;
-                Ok(folded(found))
-            }
-            Reading::Unfolded => {
-                let ended = self.end_back(asked)?;
-                Ok(ended)
-            }
-        }
-    }
-
-    /// From what an event comes.
-    fn origin(&self, stop: Stop) -> Result<Origin, NoMemory>
-        requires sees { Sees self.now.circuit.now self.now.waves.now self.now.hazards.now }
-        requires stop { IsStop self.now.circuit.now stop.corner stop }
-        ensures is { IfOk result (λ o. o ≡ origin_of self.now.circuit.now (waves_of
-            self.now.waves.now) stop) }
-        ensures within { IfOk result (LeadsWithin self.now.circuit.now stop.corner) }
-    {
-        let Some((number, element)) = self.driver(stop.net) else {
-            return Ok(Origin::Input);
-        };
-        let Some(back) = self.read_back(stop, number, element)? else {
-            return Ok(Origin::Level);
-        };
-        let earlier = self.stop_at(stop.corner, back.event);
-        Ok(Origin::Earlier(back.passage, earlier))
-    }
-
     /// The path of an event of a net.
     pub fn net_path(&self, paths: &mut Paths, event: Event) -> Result<At, NoMemory>
         requires sees { Sees self.now.circuit.now self.now.waves.now self.now.hazards.now }
@@ -348,7 +235,7 @@ impl<'a, W: CyclicWave<Item = Value>> View<'a, W> {
         // no path is long, since no period is
         let _period = self.period();
         Ok(At {
-            node: paths.trace(self, self.stop(event))?,
+            node: paths.trace(self, self.stop_at(event.corner, event))?,
             tick: event.tick,
             wire: 0,
         })

@@ -1,12 +1,13 @@
 -- Rows over no case, and sets of cases from the last back.
-use Rattle.std.proofs.Common.{◌≡◌, ℕ, zero, suc, ◌+◌, ◌-◌, ◌<◌, ◌≤◌, refl, sym, ap, subst, ◌∙◌, arith, List, [], ◌∷◌, ◌++◌, append-nil, map, length, replicate, reverse, take, Option, Some, None}
-use Rattle.std.specs.Prelude.{slice_get, slice_index_or, unwrap_or}
+use Rattle.std.proofs.Common.{◌≡◌, ℕ, zero, suc, ◌+◌, ◌-◌, ◌<◌, ◌≤◌, Bool, true, false, ◌||◌, cond, refl, sym, ap, subst, ◌∙◌, arith, List, [], ◌∷◌, ◌++◌, append-nil, map, length, replicate, reverse, take, Option, Some, None}
+use Rattle.std.specs.Prelude.{is_none, nat_le, slice_get, slice_index_or, unwrap_or}
 use Rattle.std.proofs.lemmas.List.{get_or-reverse, length-replicate, length-reverse, map_more, reverse-append, take_all}
 use Rattle.flat_circuit.specs.Circuit.{Circuit}
 use Rattle.slack_rows.specs.declared.parameter.Parameter.{Parameter}
+use Rattle.slack_rows.specs.declared.parameter.Word.{Word as Limit}
 use Rattle.slack_rows.specs.declared.rows.Least.{Least}
-use Rattle.slack_rows.specs.Rows.{all_limits}
-use Rattle.slack_rows.specs.Known.{AreKnown, IsKnown, IsNumbered, numbers_of, places_of, places_within}
+use Rattle.slack_rows.specs.Rows.{all_limits, partner}
+use Rattle.slack_rows.specs.Known.{AreKnown, BreaksBoth, IsKnown, IsNumbered, breaks, least_at, numbers_of, places_of, places_within}
 
 -- ---- no case
 
@@ -22,6 +23,23 @@ at_none (suc n) zero found at = by found at
     by x same = sym (ap item same)
 at_none (suc n) (suc i) found at = at_none n i found at
 
+index_none : (n i : ℕ) → ◌≡◌ {A = Option Least} (slice_index_or (replicate n None) i None) None
+index_none zero i = refl
+index_none (suc n) zero = refl
+index_none (suc n) (suc i) = index_none n i
+
+no_least : (least : List (Option Least)) (n i back : ℕ) → least ≡ replicate n None → least_at least i back ≡ None
+no_least least n i back is = by (nat_le back i) (ap (λ (xs : List (Option Least)). slice_index_or xs (i - back) None) is ∙ index_none n (i - back))
+  where
+    by : (b : Bool) → slice_index_or least (i - back) None ≡ None → cond b (slice_index_or least (i - back) None) None ≡ None
+    by true none = none
+    by false none = refl
+
+none_both : (c : Circuit) (least : List (Option Least)) (n i : ℕ) (q : Parameter) (o : Option Limit) → least ≡ replicate n None → BreaksBoth c [] least i q o
+none_both c least n i q None is = tt
+none_both c least n i q (Some before) is =
+    (λ k. breaks (no_least least n i 1 is k) || breaks (no_least least n i 0 is k))
+
 pub known_none : (c : Circuit) (limits : List Parameter) (least : List (Option Least)) (n : ℕ) → limits ≡ all_limits c →
     least ≡ replicate n None → n ≡ length limits → AreKnown c [] limits least [] []
 known_none c limits least n are is long =
@@ -34,6 +52,9 @@ known_none c limits least n are is long =
       are_sets = λ k. omega arith;
       numbered = λ i found at. subst (IsNumbered []) (sym (none i found at)) tt;
       each = λ i q found at here sure. subst (IsKnown c [] [] q) (sym (none i found here)) refl;
+      free = λ i q found at here. ap (λ (o : Option Least). is_none o) (none i found here);
+      alone = λ i q found at here two. ap breaks (none i found here);
+      both = λ i q at. none_both c least n i q (partner q.word) is;
     }
 
 -- ---- from the last back

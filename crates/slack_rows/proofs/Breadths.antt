@@ -33,7 +33,7 @@ use Rattle.slack_rows.specs.declared.slack.Told.{Told as Found}
 use Rattle.slack_rows.specs.declared.window.Window.{Window as Ticks}
 use Rattle.slack_rows.specs.Slack.{InPulse, Place, Ticks as TicksLeft, Told, told_at, told_of}
 use Rattle.slack_rows.specs.Pulse.{Pulse, changes_again, left_at, left_by, left_if, left_in, left_of, left_on, left_once, may_change_again, narrowest, told_pulse, told_wave, width_of}
-use Rattle.slack_rows.specs.Views.{in_pulse, place_by, place_of, slack_by, told_by_found}
+use Rattle.slack_rows.specs.Views.{IsNear, IsTold, in_pulse, place_by, place_of, slack_by, told_by_found}
 
 -- ---- how wide it is
 
@@ -177,3 +177,8 @@ level_told c ws j level limit pin is =
     ap (λ (w : Wave Value). told_of 0 (begin_of level)
     (told_wave limit (left_at c ws level pin) (read w.cells) (narrowest (period c.header) level (read w.cells)))) wave
     ∙ ap (told_level c ws j level limit) (sym is)
+
+-- what is told by no region
+pub told_near : (p : ℕ) (found : Found) (told : Told) (by : By) → found.by ≡ by → IsNear p found by → told ≡ told_by_found p found →
+    IsTold p found told
+told_near p found told by way near is = record { is = is; near = subst (IsNear p found) (sym way) near }

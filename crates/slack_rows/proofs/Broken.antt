@@ -9,7 +9,7 @@ use Rattle.slack_rows.specs.Laws.{SomeOf}
 
 -- ---- the least
 
-less_breaks : (a b : Slack) → is_less a b ≡ true → is_broken b ≡ true → is_broken a ≡ true
+pub less_breaks : (a b : Slack) → is_less a b ≡ true → is_broken b ≡ true → is_broken a ≡ true
 less_breaks a b less broken = by (is_broken a) refl
   where
     by : (x : Bool) → is_broken a ≡ x → is_broken a ≡ true
@@ -19,7 +19,7 @@ less_breaks a b less broken = by (is_broken a) refl
         (λ i. cond (is i) (cond (broken i) (is_fewer a b) true) (cond (broken i) false (is_fewer a b))) in
         absurd (cc (sym no ∙ less))
 
-more_breaks : (a b : Slack) → is_less a b ≡ false → is_broken a ≡ true → is_broken b ≡ true
+pub more_breaks : (a b : Slack) → is_less a b ≡ false → is_broken a ≡ true → is_broken b ≡ true
 more_breaks a b more broken = by (is_broken b) refl
   where
     by : (x : Bool) → is_broken b ≡ x → is_broken b ≡ true

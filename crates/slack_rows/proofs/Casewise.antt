@@ -11,7 +11,8 @@ use Rattle.slack_rows.specs.declared.slack.Told.{Told as Found}
 use Rattle.slack_rows.specs.Slack.{Slack, Free, Told, is_less, lesser, told_alone}
 use Rattle.slack_rows.specs.Limit.{Case, has_slack, least_told, same_slack, told_case, worst}
 use Rattle.slack_rows.specs.Known.{AreSets, IfFound, IsFirst, IsJoined, IsKept, IsKnown, IsLeast, IsLowered, IsLoweredBy, IsNumbered, IsSetWith, numbers_of, places_of}
-use Rattle.slack_rows.specs.Views.{Tells, slack_by, told_by_found}
+use Rattle.slack_rows.specs.Rows.{first_where, first_with}
+use Rattle.slack_rows.specs.Views.{IsTold, Tells, slack_by}
 use Rattle.slack_rows.proofs.Comparing.{less_not, none_less, none_same}
 use Rattle.slack_rows.proofs.Kept.{filter_more}
 use Rattle.slack_rows.proofs.Ordered.{before_free, free_is_last}
@@ -20,6 +21,30 @@ use Rattle.slack_rows.proofs.Tellings.{least_map_more}
 
 abbrev number_of_case : Case → ℕ
 number_of_case case = case.number
+
+-- ---- the first that passes
+
+first_kept : (test : Case → Bool) (cases : List Case) (one : Case) → first_where test cases < length cases →
+    first_where test (cases ++ one ∷ []) ≡ first_where test cases
+first_kept test [] one below = absurd (omega (arith, below))
+first_kept test (case ∷ cases) one below = by (test case) below (first_kept test cases one)
+  where
+    by : (b : Bool) → cond b 0 (first_where test cases + 1) < suc (length cases) →
+        (first_where test cases < length cases → first_where test (cases ++ one ∷ []) ≡ first_where test cases) →
+        cond b 0 (first_where test (cases ++ one ∷ []) + 1) ≡ cond b 0 (first_where test cases + 1)
+    by true small rest = refl
+    by false small rest = ap (λ (n : ℕ). n + 1) (rest (omega (arith, small)))
+
+first_new : (test : Case → Bool) (cases : List Case) (one : Case) → filter test cases ≡ [] → test one ≡ true →
+    first_where test (cases ++ one ∷ []) ≡ length cases
+first_new test [] one none passes = ap (λ (b : Bool). cond b 0 (0 + 1)) passes
+first_new test (case ∷ cases) one none passes = by (test case) none (λ more. first_new test cases one more passes)
+  where
+    by : (b : Bool) → cond b (case ∷ filter test cases) (filter test cases) ≡ [] →
+        (filter test cases ≡ [] → first_where test (cases ++ one ∷ []) ≡ length cases) →
+        cond b 0 (first_where test (cases ++ one ∷ []) + 1) ≡ suc (length cases)
+    by true is rest = absurd (cc)
+    by false is rest = let same = rest is in omega (arith, same)
 
 module _ (c : Circuit) (cases : List Case) (one : Case) (q : Parameter) where
   abbrev before : Told
@@ -83,6 +108,22 @@ module _ (c : Circuit) (cases : List Case) (one : Case) (q : Parameter) where
       (none_same (told_case c q.subject q.word) here.slack before.slack cases less
       (none_less (told_case c q.subject q.word) (told_alone Free) cases))
 
+  -- ---- the first that has it
+
+  first_stays : is_less here.slack before.slack ≡ false → first_with c cases q.subject q.word < length cases →
+      first_with c (cases ++ one ∷ []) q.subject q.word ≡ first_with c cases q.subject q.word
+  first_stays more below =
+      ap (λ (told : Told). first_where (has_slack c q.subject q.word told.slack) (cases ++ one ∷ [])) (stays more)
+      ∙ first_kept (has_slack c q.subject q.word before.slack) cases one below
+
+  first_begins : is_less here.slack before.slack ≡ true → first_with c (cases ++ one ∷ []) q.subject q.word ≡ length cases
+  first_begins less =
+      ap (λ (told : Told). first_where (has_slack c q.subject q.word told.slack) (cases ++ one ∷ [])) (falls less)
+      ∙ first_new (has_slack c q.subject q.word here.slack) cases one
+      (none_same (told_case c q.subject q.word) here.slack before.slack cases less
+      (none_less (told_case c q.subject q.word) (told_alone Free) cases))
+      (equals (is_less here.slack here.slack) (is_less here.slack here.slack) (less_not here.slack) (less_not here.slack))
+
   -- ---- their numbers
 
   numbers_more : map number_of_case (cases ++ one ∷ []) ≡ map number_of_case cases ++ one.number ∷ []
@@ -99,11 +140,18 @@ module _ (c : Circuit) (cases : List Case) (one : Case) (q : Parameter) where
   -- ---- what is known
 
   module _ (sets new : List (ℕ × ℕ)) (are : AreSets sets) where
+    below_all : (least : Least) → IsLeast c cases sets q least → first_with c cases q.subject q.word < length cases
+    below_all least known =
+        let below = (subst (AllByRecursion (λ place. place < length cases)) known.first.1 known.within).0 in
+        let is = known.in_case in
+        omega (arith, below, is)
+
     kept : (least : Least) → is_less here.slack before.slack ≡ false → is_less before.slack here.slack ≡ true → new ≡ sets →
         IsLeast c cases sets q least → IsLeast c (cases ++ one ∷ []) new q least
     kept least more less same known =
         record {
-          told = stays more ∙ known.told;
+          told = subst (IsTold (period c.header) least.told) (sym (stays more)) known.told;
+          in_case = first_stays more (below_all least known) ∙ known.in_case;
           have_it =
               ap (λ (numbers : List ℕ). numbers_of numbers (places_of new least.cases)) numbers_more
               ∙ ap (λ (some : List (ℕ × ℕ)). numbers_of (map number_of_case cases ++ one.number ∷ []) (places_of some least.cases)) same
@@ -124,7 +172,10 @@ module _ (c : Circuit) (cases : List Case) (one : Case) (q : Parameter) where
         places_new sets are (least.cases, case) found.cases new numbered is.set in
         let places : List ℕ = places_of sets least.cases in
         record {
-          told = stays more ∙ known.told ∙ ap (told_by_found (period c.header)) (sym is.same_told);
+          told =
+              subst (IsTold (period c.header) found.told) (sym (stays more))
+              (subst (λ (f : Found). IsTold (period c.header) f before) (sym is.same_told) known.told);
+          in_case = first_stays more (below_all least known) ∙ known.in_case ∙ sym is.same_case;
           have_it =
               ap (λ (numbers : List ℕ). numbers_of numbers (places_of new found.cases)) numbers_more
               ∙ ap (numbers_of (map number_of_case cases ++ one.number ∷ [])) at
@@ -143,14 +194,17 @@ module _ (c : Circuit) (cases : List Case) (one : Case) (q : Parameter) where
               (within_new (length cases) (places_of sets least.cases) known.within)));
         }
 
-    begun : (told : Found) (found : Least) (case : ℕ) → case ≡ length cases → here ≡ told_by_found (period c.header) told →
+    begun : (told : Found) (found : Least) (case : ℕ) → case ≡ length cases → IsTold (period c.header) told here →
         is_less here.slack before.slack ≡ true → IsFirst sets told case new found → IsLeast c (cases ++ one ∷ []) new q found
     begun told found case last tells less is =
         let at : places_of new found.cases ≡ case ∷ [] =
         places_new sets are (0, case) found.cases new (omega arith) is.set
         ∙ ap (λ (some : List ℕ). some ++ case ∷ []) (places_none sets) in
         record {
-          told = falls less ∙ tells ∙ ap (told_by_found (period c.header)) (sym is.same_told);
+          told =
+              subst (IsTold (period c.header) found.told) (sym (falls less))
+              (subst (λ (f : Found). IsTold (period c.header) f here) (sym is.same_told) tells);
+          in_case = first_begins less ∙ sym last ∙ sym is.same_case;
           have_it =
               ap (λ (numbers : List ℕ). numbers_of numbers (places_of new found.cases)) numbers_more
               ∙ ap (numbers_of (map number_of_case cases ++ one.number ∷ [])) at
@@ -175,16 +229,16 @@ module _ (c : Circuit) (cases : List Case) (one : Case) (q : Parameter) where
         let more : is_less here.slack before.slack ≡ false =
         ap (λ (s : Slack). is_less s before.slack) tells ∙ free_is_last before.slack in
         let less : is_less before.slack here.slack ≡ true =
-        ap (λ (s : Slack). is_less before.slack s) tells ∙ ap (λ (told : Told). is_less told.slack Free) known.told ∙ before_free least.told.slack in
+        ap (λ (s : Slack). is_less before.slack s) tells ∙ ap (λ (told : Told). is_less told.slack Free) known.told.is ∙ before_free least.told.slack in
         subst (IsKnown c (cases ++ one ∷ []) new q) (sym is.same) (kept least more less is.same_sets known)
     known_more None None (Some told) case last numbered tells known is = absurd is
     known_more None (Some found) (Some told) case last numbered tells known is =
         begun told found case last tells
-        (ap (λ (s : Slack). is_less here.slack s) known ∙ ap (λ (t : Told). is_less t.slack Free) tells ∙ before_free told.slack) is
+        (ap (λ (s : Slack). is_less here.slack s) known ∙ ap (λ (t : Told). is_less t.slack Free) tells.is ∙ before_free told.slack) is
     known_more (Some least) found (Some told) case last numbered tells known is =
         by (is_less (slack_by told.slack) (slack_by least.told.slack)) (is_less (slack_by least.told.slack) (slack_by told.slack))
-        (ap (λ (t : Told). is_less t.slack before.slack) tells ∙ ap (λ (t : Told). is_less (slack_by told.slack) t.slack) known.told)
-        (ap (λ (t : Told). is_less before.slack t.slack) tells ∙ ap (λ (t : Told). is_less t.slack (slack_by told.slack)) known.told)
+        (ap (λ (t : Told). is_less t.slack before.slack) tells.is ∙ ap (λ (t : Told). is_less (slack_by told.slack) t.slack) known.told.is)
+        (ap (λ (t : Told). is_less before.slack t.slack) tells.is ∙ ap (λ (t : Told). is_less t.slack (slack_by told.slack)) known.told.is)
         found is
       where
         by : (a b : Bool) → is_less here.slack before.slack ≡ a → is_less before.slack here.slack ≡ b → (some : Option Least) →

@@ -15,6 +15,7 @@ use Rattle.flat_circuit.specs.Circuit.{Circuit}
 use Rattle.flat_circuit.specs.Instances.{PinExists, TargetExists}
 use Rattle.fixpoint_engine.specs.Waves.{Waves}
 use Rattle.critical_paths.specs.declared.direction.Direction.TheVariants.{Rise, Fall, Change}
+use Rattle.critical_paths.specs.declared.direction.Direction.{Direction}
 use Rattle.critical_paths.specs.declared.region.Slots.{Slots as Found}
 use Rattle.critical_paths.specs.declared.region.Region.{Region as Ticked}
 use Rattle.critical_paths.specs.Event.{Events, events}
@@ -23,12 +24,14 @@ use Rattle.critical_paths.specs.Views.{IsPin}
 use Rattle.slack_rows.specs.declared.parameter.Word.TheVariants.{Setup, Hold}
 use Rattle.slack_rows.specs.declared.sides.Held.{Held}
 use Rattle.slack_rows.specs.declared.slack.Slacks.{Slacks}
-use Rattle.slack_rows.specs.Held.{AreSlots, IsHeld, TellWatch, launches_of, two_of}
+use Rattle.slack_rows.specs.declared.slack.Told.{Told as Answer}
+use Rattle.slack_rows.specs.Held.{AreSlots, IsHeld, TellSides, TellWatch, launches_of, two_of}
 use Rattle.slack_rows.specs.Launched.{checker_launches, two_at_ends}
 use Rattle.slack_rows.specs.Limit.{check_by_arrivals, edge_limits, has_no_window, is_by_arrivals, pin_folds, rises_of, spans_of, still_after, still_before, told_check, told_edge}
-use Rattle.slack_rows.specs.Slack.{Free, Told, after_window, before_window, told_after, told_alone, told_before, told_of}
+use Rattle.slack_rows.specs.Slack.{Free, Told, Watch, after_window, before_window, told_after, told_alone, told_before, told_of}
 use Rattle.slack_rows.specs.Views.{Tells, checks_edges}
-use Rattle.slack_rows.proofs.Parting.{check_after, check_before, none_parts, quiet_free, some_parts}
+use Rattle.slack_rows.proofs.Alike.{alike_none, alike_told}
+use Rattle.slack_rows.proofs.Parting.{check_after, check_alike, check_before, none_parts, quiet_free, some_parts}
 use Rattle.slack_rows.proofs.Watching.{nothing_here, some_where_all, something_here, told_free}
 
 -- ---- pins
@@ -66,12 +69,9 @@ module _ (c : Circuit) (ws : Waves) (j : Instance) where
   abbrev p : ℕ
   p = period c.header
 
-  abbrev ToldBoth : Check → Slacks → Type 0
+  abbrev pub ToldBoth : Check → Slacks → Type 0
   ToldBoth check found =
-      (Tells p found.before (told_check c ws j Setup (Some check))) × (Tells p found.after (told_check c ws j Hold (Some check)))
-
-  abbrev Exact : Check → Type 0
-  Exact check = check_by_arrivals c ws j (Some check) ≡ false
+      TellSides p (check_by_arrivals c ws j (Some check)) (told_check c ws j Setup (Some check)) (told_check c ws j Hold (Some check)) found
 
   abbrev AreFree : Check → Type 0
   AreFree check =
@@ -104,55 +104,77 @@ module _ (c : Circuit) (ws : Waves) (j : Instance) where
                 (told_free (after_window p (rises_of c ws j).changes launches) p (rises_of c ws j) launches.first_way none),
           )
 
+  pub free_both : (check : Check) (found : Slacks) → found ≡ record { level = None; before = None; after = None } → AreFree check → ToldBoth check found
+  free_both check found is free =
+      let before = ap (λ (s : Slacks). s.before) is in
+      let after = ap (λ (s : Slacks). s.after) is in
+      record {
+        before = λ exact. subst (λ (o : Option Answer). Tells p o (told_check c ws j Setup (Some check))) (sym before) free.0;
+        after = λ exact. subst (λ (o : Option Answer). Tells p o (told_check c ws j Hold (Some check))) (sym after) free.1;
+        alike = alike_none found (told_check c ws j Setup (Some check)).slack (told_check c ws j Hold (Some check)).slack before after free.0 free.1;
+      }
+
+  -- what is told exactly
+  exact_both : (check : Check) (found : Slacks) → Tells p found.before (told_check c ws j Setup (Some check)) →
+      Tells p found.after (told_check c ws j Hold (Some check)) → ToldBoth check found
+  exact_both check found before after =
+      record {
+        before = λ exact. before;
+        after = λ exact. after;
+        alike = alike_told p found (told_check c ws j Setup (Some check)) (told_check c ws j Hold (Some check)) before after;
+      }
+
   -- a checker that asks for nothing
   pub quiet_check : (check : Check) (found : Slacks) → check ≡ AboutRise → has_no_window (edge_limits j.limits) ≡ true →
       Tells p found.before (told_of 1 Change (told_edge still_before c ws j)) →
       Tells p found.after (told_of 1 Change (told_edge still_after c ws j)) → ToldBoth check found
   quiet_check check found is nothing before after =
       subst (λ (x : Check). ToldBoth x found) (sym is)
+      (exact_both AboutRise found
       (subst (λ (b : Bool).
-      (Tells p found.before (told_of 1 Change (cond b (told_edge still_before c ws j) (told_before p (checker_launches c ws j Rise (rises_of c ws j).windows) (rises_of c ws j)))))
-      × (Tells p found.after (told_of 1 Change (cond b (told_edge still_after c ws j) (told_after p (checker_launches c ws j Rise (rises_of c ws j).windows) (rises_of c ws j))))))
-      (sym nothing) (before, after))
+      Tells p found.before (told_of 1 Change (cond b (told_edge still_before c ws j) (told_before p (checker_launches c ws j Rise (rises_of c ws j).windows) (rises_of c ws j)))))
+      (sym nothing) before)
+      (subst (λ (b : Bool).
+      Tells p found.after (told_of 1 Change (cond b (told_edge still_after c ws j) (told_after p (checker_launches c ws j Rise (rises_of c ws j).windows) (rises_of c ws j)))))
+      (sym nothing) after))
 
   module _ (held : Held) (pin_is : slice_get j.pins 1 ≡ Some held.pin) (clock_is : slice_get j.pins 0 ≡ Some held.clock)
       (opens_is : held.opens ≡ Rise) (place_is : held.place ≡ 1) where
+    abbrev HeldWatch : Watch → Slacks → Type 0
+    HeldWatch watch found =
+        TellWatch p (launches_of c ws (Some held)) (is_by_arrivals p (two_of c ws (Some held)) watch) held.place Change watch found
+
+    checked : (closing : Direction) (watch : Watch) (found : Slacks) → HeldWatch watch found →
+        TellSides p (is_by_arrivals p (two_at_ends c ws j 0 1 Rise) watch)
+        (told_of 1 Change (told_before p (checker_launches c ws j closing watch.windows) watch))
+        (told_of 1 Change (told_after p (checker_launches c ws j closing watch.windows) watch)) found
+    checked closing watch found tell =
+        let at = subst (λ (n : ℕ). TellWatch p (launches_of c ws (Some held)) (is_by_arrivals p (two_of c ws (Some held)) watch) n Change watch found) place_is tell in
+        record {
+          before = check_before c ws j held pin_is clock_is opens_is found closing watch at;
+          after = check_after c ws j held pin_is clock_is opens_is found closing watch at;
+          alike = check_alike c ws j held pin_is clock_is opens_is found closing watch at;
+        }
+
     -- from rises to falls
     pub span_check : {E : Type 0} (check : Check) (r : Result Slacks E) → check ≡ RiseToFall →
-        IfOk r (TellWatch p (launches_of c ws (Some held)) (is_by_arrivals p (two_of c ws (Some held)) (spans_of c ws j)) held.place Change (spans_of c ws j)) →
-        Exact check → IfOk r (ToldBoth check)
-    span_check check r is told exact =
-        let sure = ap (λ (x : Check). check_by_arrivals c ws j (Some x)) (sym is) ∙ exact in
-        IfOk-weaker r
-        (TellWatch p (launches_of c ws (Some held)) (is_by_arrivals p (two_of c ws (Some held)) (spans_of c ws j)) held.place Change (spans_of c ws j))
-        (ToldBoth check)
-        (λ found tell.
-        (let at = subst (λ (n : ℕ). TellWatch p (launches_of c ws (Some held)) (is_by_arrivals p (two_of c ws (Some held)) (spans_of c ws j)) n Change (spans_of c ws j) found) place_is tell in
-        subst (λ (x : Check). ToldBoth x found) (sym is) (
-          check_before c ws j held pin_is clock_is opens_is found Fall (spans_of c ws j) at sure,
-          check_after c ws j held pin_is clock_is opens_is found Fall (spans_of c ws j) at sure,
-        )))
+        IfOk r (HeldWatch (spans_of c ws j)) → IfOk r (ToldBoth check)
+    span_check check r is told =
+        IfOk-weaker r (HeldWatch (spans_of c ws j)) (ToldBoth check)
+        (λ found tell. subst (λ (x : Check). ToldBoth x found) (sym is) (checked Fall (spans_of c ws j) found tell))
         told
 
     -- about rises
+    abbrev ToldBy : Bool → Slacks → Type 0
+    ToldBy none found =
+        TellSides p (cond none false (is_by_arrivals p (two_at_ends c ws j 0 1 Rise) (rises_of c ws j)))
+        (told_of 1 Change (cond none (told_edge still_before c ws j) (told_before p (checker_launches c ws j Rise (rises_of c ws j).windows) (rises_of c ws j))))
+        (told_of 1 Change (cond none (told_edge still_after c ws j) (told_after p (checker_launches c ws j Rise (rises_of c ws j).windows) (rises_of c ws j)))) found
+
     pub rise_check : {E : Type 0} (check : Check) (r : Result Slacks E) → check ≡ AboutRise → has_no_window (edge_limits j.limits) ≡ false →
-        IfOk r (TellWatch p (launches_of c ws (Some held)) (is_by_arrivals p (two_of c ws (Some held)) (rises_of c ws j)) held.place Change (rises_of c ws j)) →
-        Exact check → IfOk r (ToldBoth check)
-    rise_check check r is some told exact =
-        let sure : is_by_arrivals p (two_at_ends c ws j 0 1 Rise) (rises_of c ws j) ≡ false =
-        ap (λ (b : Bool). cond b false (is_by_arrivals p (two_at_ends c ws j 0 1 Rise) (rises_of c ws j))) (sym some)
-        ∙ ap (λ (x : Check). check_by_arrivals c ws j (Some x)) (sym is) ∙ exact in
-        IfOk-weaker r
-        (TellWatch p (launches_of c ws (Some held)) (is_by_arrivals p (two_of c ws (Some held)) (rises_of c ws j)) held.place Change (rises_of c ws j))
-        (ToldBoth check)
-        (λ found tell.
-        (let at = subst (λ (n : ℕ). TellWatch p (launches_of c ws (Some held)) (is_by_arrivals p (two_of c ws (Some held)) (rises_of c ws j)) n Change (rises_of c ws j) found) place_is tell in
-        subst (λ (x : Check). ToldBoth x found) (sym is)
-        (subst (λ (b : Bool).
-        (Tells p found.before (told_of 1 Change (cond b (told_edge still_before c ws j) (told_before p (checker_launches c ws j Rise (rises_of c ws j).windows) (rises_of c ws j)))))
-        × (Tells p found.after (told_of 1 Change (cond b (told_edge still_after c ws j) (told_after p (checker_launches c ws j Rise (rises_of c ws j).windows) (rises_of c ws j))))))
-        (sym some) (
-          check_before c ws j held pin_is clock_is opens_is found Rise (rises_of c ws j) at sure,
-          check_after c ws j held pin_is clock_is opens_is found Rise (rises_of c ws j) at sure,
-        ))))
+        IfOk r (HeldWatch (rises_of c ws j)) → IfOk r (ToldBoth check)
+    rise_check check r is some told =
+        IfOk-weaker r (HeldWatch (rises_of c ws j)) (ToldBoth check)
+        (λ found tell. subst (λ (x : Check). ToldBoth x found) (sym is)
+        (subst (λ (b : Bool). ToldBy b found) (sym some) (checked Rise (rises_of c ws j) found tell)))
         told

@@ -8,7 +8,7 @@ use Rattle.slack_rows.specs.Slack.{Slack, Free, Ticks, Way, NoNumber, Launches, 
 use Rattle.slack_rows.specs.Window.{Side, Late, Early, Either, about}
 
 -- an event in each slot with an x
-abbrev marked : String → Events
+abbrev pub marked : String → Events
 marked s t = slice_index_or (map (λ c. c == 120) (codes s)) (t % length (codes s)) false
 
 -- ---- regions

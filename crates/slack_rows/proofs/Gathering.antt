@@ -10,13 +10,14 @@ use Rattle.std.proofs.lemmas.List.Folds.{list_any-append}
 use Rattle.fixpoint_engine.specs.Waves.{Waves}
 use Rattle.flat_circuit.specs.Circuit.{Circuit}
 use Rattle.critical_paths.specs.declared.direction.Direction.{Direction}
+use Rattle.critical_paths.specs.declared.direction.Corner.{Corner}
 use Rattle.critical_paths.specs.declared.direction.Corner.TheVariants.{Late as LateCorner, Early as EarlyCorner}
 use Rattle.critical_paths.specs.declared.region.Region.{Region as Ticked}
 use Rattle.scald_base.specs.Time.{period}
 use Rattle.critical_paths.specs.declared.direction.Direction.TheVariants.{Change}
 use Rattle.critical_paths.specs.Arrival.{arrivals_of}
 use Rattle.critical_paths.specs.Event.{Events}
-use Rattle.critical_paths.specs.Region.{IsCyclic, Region, all_events, regions, regions_from}
+use Rattle.critical_paths.specs.Region.{IsCyclic, Region, all_events, region_from, region_to, regions, regions_from}
 use Rattle.critical_paths.specs.Views.{later_by, ticks_of_region}
 use Rattle.slack_rows.specs.declared.around.Around.{Around}
 use Rattle.slack_rows.specs.declared.around.Side.{Side as Counted}
@@ -25,17 +26,19 @@ use Rattle.slack_rows.specs.declared.slack.Slacks.{Slacks}
 use Rattle.slack_rows.specs.declared.slack.Told.{Told as Found}
 use Rattle.slack_rows.specs.declared.window.Window.{Window as Ticks}
 use Rattle.slack_rows.specs.Window.{Window, Side, counts_after, counts_before, meets, met}
-use Rattle.slack_rows.specs.Slack.{Free, Launches, Told, is_less, least, Ticks as TicksLeft, after_at, after_by, after_window, before_at, before_by, before_window, first_after, if_inside, is_open, last_before, told_of, two_alone, two_in, two_launches}
+use Rattle.slack_rows.specs.Slack.{At, Free, Launches, Told, is_broken, is_free, is_less, least, lesser, Ticks as TicksLeft, after_at, after_by, after_window, before_at, before_by, before_window, first_after, if_inside, is_open, last_before, told_of, two_alone, two_in, two_launches}
 use Rattle.slack_rows.specs.Laws.{IsPlaced}
 use Rattle.slack_rows.specs.Launched.{two_by}
 use Rattle.critical_paths.specs.Tick.{IsWithin, most_tick}
-use Rattle.slack_rows.specs.Views.{Tells, ahead_of, counts_first, counts_last, is_two, meets_window, lesser_found, told_by_found, told_by_region, window_about, window_in}
-use Rattle.slack_rows.specs.Held.{AreAround, AreChanges, IsClose, IsCloseWindow, IsHeld, IsInPeriod, Lies, MayBeClose, MayBeHeld, TellWindow, TellWindows, first_item, held_edge, held_two, in_period, in_periods, last_item, launches_of, region_in, side_held, slacks_of_two, two_of, windows_about}
+use Rattle.slack_rows.specs.Views.{IsByRegion, Tells, ahead_of, counts_first, counts_last, end_at, is_two, meets_window, lesser_found, region_in, slack_told, spare_at, told_by_region, window_about, window_in}
+use Rattle.slack_rows.specs.Held.{AreAlike, AreAround, AreChanges, IsBrokenByTwo, IsClose, IsCloseWindow, IsHeld, IsInPeriod, Lies, MayBeClose, MayBeHeld, TellWindow, TellWindows, first_item, held_edge, held_two, in_period, in_periods, last_item, launches_of, side_held, slacks_of_two, two_of, windows_about}
 use Rattle.slack_rows.proofs.Kept.{filter_more, first_more, last_more}
 use Rattle.slack_rows.proofs.Lying.{ahead_is}
-use Rattle.slack_rows.proofs.Near.{first_found, last_found}
+use Rattle.slack_rows.proofs.Near.{first_found, first_made as near_first, last_found, last_made as near_last}
+use Rattle.slack_rows.proofs.Paired.{regions_one, told_one}
+use Rattle.slack_rows.proofs.Alike.{alike_broken, alike_lesser, alike_none, alike_told}
 use Rattle.slack_rows.proofs.Unrolled.{moved_region, regions_more}
-use Rattle.slack_rows.proofs.Tellings.{least_map_more, lesser_of, tells_lesser}
+use Rattle.slack_rows.proofs.Tellings.{least_map_more, lesser_of, tells_lesser, told_slack}
 use Rattle.slack_rows.proofs.Watched.{some_gap}
 
 -- ---- one region more
@@ -161,7 +164,7 @@ length_through f (x ∷ xs) = let rest = length_through f xs in omega (arith, re
 
 -- ---- two launches in the only region that meets a window
 
-filter_both : {A : Type 0} (a b : A → Bool) (xs : List A) → filter (λ x. a x && b x) xs ≡ filter b (filter a xs)
+pub filter_both : {A : Type 0} (a b : A → Bool) (xs : List A) → filter (λ x. a x && b x) xs ≡ filter b (filter a xs)
 filter_both a b [] = refl
 filter_both {A} a b (x ∷ xs) = by (a x) (filter_both a b xs)
   where
@@ -221,26 +224,42 @@ module _ (p : ℕ) (pin : ℕ) (d : Direction) (w : Ticks) (near : IsCloseWindow
   abbrev own : Window
   own = window_in p w
 
-  ticks_same : (n m : ℤ) → n ≡ m → TicksLeft n ≡ TicksLeft m
-  ticks_same n m same = ap TicksLeft same
+  near_region : (corner : Corner) (r : Ticked) → IsClose p r → IsByRegion p (told_by_region pin d corner w r) r
+  near_region corner r close =
+      let from = close.from in
+      let ordered = close.ordered in
+      record {
+        number = (spare_at corner w (end_at corner r), refl);
+        opens = near.opens;
+        first = close.from;
+        last = omega (arith, ints, from, ordered);
+      }
 
-  pub tells_last : (o : Option Ticked) → MayBeClose p o →
-      Tells p (option_map (told_by_region pin d LateCorner w) o) (told_of pin d (before_at own (option_map (λ (r : Region). r.last) (option_map (region_in p) o))))
-  tells_last None close = refl
-  tells_last (Some r) close =
+  pub tells_last : (ev : Events) (o : Option Ticked) → MayBeClose p o → IfSome (option_map (region_in p) o) (λ r. region_to p ev r.last ≡ r) →
+      Tells p (option_map (told_by_region pin d LateCorner w) o)
+      (told_of pin d (before_at p ev own (option_map (λ (r : Region). r.last) (option_map (region_in p) o))))
+  tells_last ev None close made = refl
+  tells_last ev (Some r) close made =
       let opens = ahead_is p (w.from -ℤ pos 1) near.opens in
       let tick = ahead_is p r.last (let from = close.from in let ordered = close.ordered in omega (arith, ints, from, ordered)) in
       let left : pos own.opens -ℤ pos (ahead_of p r.last) ≡ w.from -ℤ pos 1 -ℤ r.last = omega (arith, ints, opens, tick) in
-      ap (λ (n : ℤ). record (told_by_found p (told_by_region pin d LateCorner w r)) { slack = TicksLeft n }) left
+      record {
+        is = λ i. record { slack = TicksLeft (left i); place = At own (made i); pin = pin; direction = d };
+        near = near_region LateCorner r close;
+      }
 
-  pub tells_first : (o : Option Ticked) → MayBeClose p o →
-      Tells p (option_map (told_by_region pin d EarlyCorner w) o) (told_of pin d (after_at own (option_map (λ (r : Region). r.first) (option_map (region_in p) o))))
-  tells_first None close = refl
-  tells_first (Some r) close =
+  pub tells_first : (ev : Events) (o : Option Ticked) → MayBeClose p o → IfSome (option_map (region_in p) o) (λ r. region_from p ev r.first ≡ r) →
+      Tells p (option_map (told_by_region pin d EarlyCorner w) o)
+      (told_of pin d (after_at p ev own (option_map (λ (r : Region). r.first) (option_map (region_in p) o))))
+  tells_first ev None close made = refl
+  tells_first ev (Some r) close made =
       let closes = ahead_is p w.to (let from = near.opens in let ordered = near.ordered in omega (arith, ints, from, ordered)) in
       let tick = ahead_is p r.first close.from in
       let left : pos (ahead_of p r.first) -ℤ pos (own.closes + 1) ≡ r.first -ℤ w.to -ℤ pos 1 = omega (arith, ints, closes, tick) in
-      ap (λ (n : ℤ). record (told_by_found p (told_by_region pin d EarlyCorner w r)) { slack = TicksLeft n }) left
+      record {
+        is = λ i. record { slack = TicksLeft (left i); place = At own (made i); pin = pin; direction = d };
+        near = near_region EarlyCorner r close;
+      }
 
 module _ (p : ℕ) (ev : Events) (changes : List Ticked) (long : 2 ≤ p) (are : AreChanges p ev changes) (c : Circuit) (ws : Waves)
     (held : Option Held) (w : Ticks) (near : IsCloseWindow p w) (placed : IsPlaced p (window_in p w)) (all : Around)
@@ -263,12 +282,32 @@ module _ (p : ℕ) (ev : Events) (changes : List Ticked) (long : 2 ≤ p) (are :
   gap : (z : ℕ) × (ev z ≡ false) × (z < p)
   gap = some_gap p ev are.cyclic long are.some
 
+  found_last : option_map (region_in p) all.last ≡ last_item (filter (counts_before side win) (regions_from p ev (8 * p) 0))
+  found_last =
+      ap (option_map (region_in p)) around.last ∙ last_through (region_in p) (filter (λ r. counts_before side win (region_in p r)) (in_periods p changes 8))
+      ∙ ap last_item (passing (counts_before side win))
+
+  found_first : option_map (region_in p) all.first ≡ first_item (filter (counts_after side win) (regions_from p ev (8 * p) 0))
+  found_first =
+      ap (option_map (region_in p)) around.first ∙ first_through (region_in p) (filter (λ r. counts_after side win (region_in p r)) (in_periods p changes 8))
+      ∙ ap first_item (passing (counts_after side win))
+
+  made_last : IfSome (option_map (region_in p) all.last) (λ r. region_to p ev r.last ≡ r)
+  made_last =
+      let (z, none, below) = gap in
+      subst (λ (o : Option Region). IfSome o (λ r. region_to p ev r.last ≡ r)) (sym found_last)
+      (near_last p ev are.cyclic long z none below side win placed)
+
+  made_first : IfSome (option_map (region_in p) all.first) (λ r. region_from p ev r.first ≡ r)
+  made_first =
+      let (z, none, below) = gap in
+      subst (λ (o : Option Region). IfSome o (λ r. region_from p ev r.first ≡ r)) (sym found_first)
+      (near_first p ev are.cyclic long z none below side win placed)
+
   last_is : option_map (λ (r : Region). r.last) (option_map (region_in p) all.last) ≡ last_before p ev (launches.side win) win
   last_is =
       let (z, none, below) = gap in
-      ap (λ (o : Option Region). option_map (λ (r : Region). r.last) o)
-      (ap (option_map (region_in p)) around.last ∙ last_through (region_in p) (filter (λ r. counts_before side win (region_in p r)) (in_periods p changes 8))
-      ∙ ap last_item (passing (counts_before side win)))
+      ap (λ (o : Option Region). option_map (λ (r : Region). r.last) o) found_last
       ∙ sym (last_found p ev are.cyclic long z none below side win placed)
       ∙ side_by held
     where
@@ -279,9 +318,7 @@ module _ (p : ℕ) (ev : Events) (changes : List Ticked) (long : 2 ≤ p) (are :
   first_is : option_map (λ (r : Region). r.first) (option_map (region_in p) all.first) ≡ first_after p ev (launches.side win) win
   first_is =
       let (z, none, below) = gap in
-      ap (λ (o : Option Region). option_map (λ (r : Region). r.first) o)
-      (ap (option_map (region_in p)) around.first ∙ first_through (region_in p) (filter (λ r. counts_after side win (region_in p r)) (in_periods p changes 8))
-      ∙ ap first_item (passing (counts_after side win)))
+      ap (λ (o : Option Region). option_map (λ (r : Region). r.first) o) found_first
       ∙ sym (first_found p ev are.cyclic long z none below side win placed)
       ∙ side_by held
     where
@@ -289,31 +326,66 @@ module _ (p : ℕ) (ev : Events) (changes : List Ticked) (long : 2 ≤ p) (are :
       side_by None = refl
       side_by (Some h) = refl
 
-  pub tell_window : (pin : ℕ) (d : Direction) (found : Slacks) →
-      found.before ≡ option_map (told_by_region pin d LateCorner w) all.last →
-      found.after ≡ option_map (told_by_region pin d EarlyCorner w) all.first →
-      TellWindow p ev launches (two_of c ws held) pin d win found
-  tell_window pin d found before after =
-      record {
-        before = λ none.
-            subst (λ (o : Option Found). Tells p o (told_of pin d (before_window p ev launches win))) (sym before)
-            (subst (λ (told : Option ℕ). Tells p (option_map (told_by_region pin d LateCorner w) all.last) (told_of pin d (before_by win (two_launches launches win (met p ev win)) told))) last_is
-            (subst (λ (two : Option (ℕ × ℕ)). Tells p (option_map (told_by_region pin d LateCorner w) all.last)
-            (told_of pin d (before_by win two (option_map (λ (r : Region). r.last) (option_map (region_in p) all.last)))))
-            (sym (no_two c ws held win (met p ev win) none)) (tells_last p pin d w near all.last around.close_last)));
-        after = λ none.
-            subst (λ (o : Option Found). Tells p o (told_of pin d (after_window p ev launches win))) (sym after)
-            (subst (λ (told : Option ℕ). Tells p (option_map (told_by_region pin d EarlyCorner w) all.first) (told_of pin d (after_by win (two_launches launches win (met p ev win)) told))) first_is
-            (subst (λ (two : Option (ℕ × ℕ)). Tells p (option_map (told_by_region pin d EarlyCorner w) all.first)
-            (told_of pin d (after_by win two (option_map (λ (r : Region). r.first) (option_map (region_in p) all.first)))))
-            (sym (no_two c ws held win (met p ev win) none)) (tells_first p pin d w near all.first around.close_first)));
-      }
+  -- the slacks by the regions
+  module _ (pin : ℕ) (d : Direction) (found : Slacks) (before : found.before ≡ option_map (told_by_region pin d LateCorner w) all.last)
+      (after : found.after ≡ option_map (told_by_region pin d EarlyCorner w) all.first) where
+    region_before : Tells p found.before (told_of pin d (before_at p ev win (last_before p ev (launches.side win) win)))
+    region_before =
+        subst (λ (o : Option Found). Tells p o (told_of pin d (before_at p ev win (last_before p ev (launches.side win) win)))) (sym before)
+        (subst (λ (told : Option ℕ). Tells p (option_map (told_by_region pin d LateCorner w) all.last) (told_of pin d (before_at p ev win told))) last_is
+        (tells_last p pin d w near ev all.last around.close_last made_last))
+
+    region_after : Tells p found.after (told_of pin d (after_at p ev win (first_after p ev (launches.side win) win)))
+    region_after =
+        subst (λ (o : Option Found). Tells p o (told_of pin d (after_at p ev win (first_after p ev (launches.side win) win)))) (sym after)
+        (subst (λ (told : Option ℕ). Tells p (option_map (told_by_region pin d EarlyCorner w) all.first) (told_of pin d (after_at p ev win told))) first_is
+        (tells_first p pin d w near ev all.first around.close_first made_first))
+
+    exact_before : two_in p ev (two_of c ws held) win ≡ false → Tells p found.before (told_of pin d (before_window p ev launches win))
+    exact_before none =
+        subst (λ (two : Option (ℕ × ℕ)). Tells p found.before (told_of pin d (before_by p ev win two (last_before p ev (launches.side win) win))))
+        (sym (no_two c ws held win (met p ev win) none)) region_before
+
+    exact_after : two_in p ev (two_of c ws held) win ≡ false → Tells p found.after (told_of pin d (after_window p ev launches win))
+    exact_after none =
+        subst (λ (two : Option (ℕ × ℕ)). Tells p found.after (told_of pin d (after_by p ev win two (first_after p ev (launches.side win) win))))
+        (sym (no_two c ws held win (met p ev win) none)) region_after
+
+    regions_alike : (b : Bool) → two_in p ev (two_of c ws held) win ≡ b →
+        AreAlike found (before_window p ev launches win).slack (after_window p ev launches win).slack
+    regions_alike false none =
+        alike_told p found (told_of pin d (before_window p ev launches win)) (told_of pin d (after_window p ev launches win))
+        (exact_before none) (exact_after none)
+    regions_alike true two =
+        let one = regions_one p ev are.cyclic long are.some c ws held win placed two in
+        let last = told_slack p found.before (told_of pin d (before_at p ev win (last_before p ev (launches.side win) win))) region_before in
+        let first = told_slack p found.after (told_of pin d (after_at p ev win (first_after p ev (launches.side win) win))) region_after in
+        alike_broken found (before_window p ev launches win).slack (after_window p ev launches win).slack
+        record {
+          before = ap is_free last ∙ one.before;
+          after = ap is_free first ∙ one.after;
+          broken = (λ i. is_broken (last i) || is_broken (first i)) ∙ one.broken;
+        }
+        (told_one p ev are.cyclic long are.some c ws held win placed two)
+
+    pub tell_window : TellWindow p ev launches (two_of c ws held) pin d win found
+    tell_window =
+        record {
+          before = exact_before;
+          after = exact_after;
+          alike = regions_alike (two_in p ev (two_of c ws held) win) refl;
+        }
 
   -- where two launches are told there may be two
-  pub tell_two : (pin : ℕ) (d : Direction) (r : Ticked) (found : Slacks) → all.two ≡ Some r → all.met ≡ 1 →
+  pub tell_two : (pin : ℕ) (d : Direction) (r : Ticked) (found : Slacks) → all.two ≡ Some r → all.met ≡ 1 → IsBrokenByTwo found →
       TellWindow p ev launches (two_of c ws held) pin d win found
-  tell_two pin d r found two one =
-      record { before = λ none. contrary none; after = λ none. contrary none }
+  tell_two pin d r found two one broken =
+      record {
+        before = λ none. contrary none;
+        after = λ none. contrary none;
+        alike = alike_broken found (before_window p ev launches win).slack (after_window p ev launches win).slack broken
+            (told_one p ev are.cyclic long are.some c ws held win placed (surely (two_in p ev (two_of c ws held) win) refl));
+      }
     where
       contrary : {X : Type 0} → two_in p ev (two_of c ws held) win ≡ false → X
       contrary none =
@@ -325,16 +397,21 @@ module _ (p : ℕ) (ev : Events) (changes : List Ticked) (long : 2 ≤ p) (are :
           ∙ sym (last_through (region_in p) (filter (λ r. meets win (region_in p r) && (is_open win (region_in p r) && two_of c ws held win (region_in p r))) (in_periods p changes 8)))
           ∙ ap (option_map (region_in p)) (sym around.two ∙ two))
 
+      surely : (b : Bool) → two_in p ev (two_of c ws held) win ≡ b → two_in p ev (two_of c ws held) win ≡ true
+      surely true is = is
+      surely false is = contrary is
+
   -- whichever is told
   pub about_told : (pin : ℕ) (d : Direction) (o : Option (Held × Ticked)) (two : Option Slacks) (regions_told found : Slacks) →
-      IfSome o (λ f. all.two ≡ Some f.1) → IfSome o (λ f. all.met ≡ 1) → (o ≡ None → two ≡ None) →
+      IfSome o (λ f. all.two ≡ Some f.1) → IfSome o (λ f. all.met ≡ 1) → (o ≡ None → two ≡ None) → IfSome two IsBrokenByTwo →
       regions_told.before ≡ option_map (told_by_region pin d LateCorner w) all.last →
       regions_told.after ≡ option_map (told_by_region pin d EarlyCorner w) all.first →
       found ≡ slacks_of_two two regions_told → TellWindow p ev launches (two_of c ws held) pin d win found
-  about_told pin d None two regions_told found is one only before after told =
-      let same : found ≡ regions_told = told ∙ ap (λ (o : Option Slacks). slacks_of_two o regions_told) (only refl) in
-      tell_window pin d found (ap (λ (s : Slacks). s.before) same ∙ before) (ap (λ (s : Slacks). s.after) same ∙ after)
-  about_told pin d (Some f) two regions_told found is one only before after told = tell_two pin d f.1 found is one
+  about_told pin d o None regions_told found is one only broken before after told =
+      tell_window pin d found (ap (λ (s : Slacks). s.before) told ∙ before) (ap (λ (s : Slacks). s.after) told ∙ after)
+  about_told pin d None (Some s) regions_told found is one only broken before after told = absurd (cc (only refl))
+  about_told pin d (Some f) (Some s) regions_told found is one only broken before after told =
+      tell_two pin d f.1 found is one (subst IsBrokenByTwo (sym told) broken)
 
 -- ---- loops
 
@@ -401,6 +478,7 @@ module _ (p : ℕ) (ev : Events) (launches : Launches) (two : Window → Region 
         level = ap (λ (s : Slacks). s.level) is;
         before = λ exact. subst (λ (o : Option Found). Tells p o (told_of pin d (least []))) (sym (ap (λ (s : Slacks). s.before) is)) refl;
         after = λ exact. subst (λ (o : Option Found). Tells p o (told_of pin d (least []))) (sym (ap (λ (s : Slacks). s.after) is)) refl;
+        alike = alike_none all Free Free (ap (λ (s : Slacks). s.before) is) (ap (λ (s : Slacks). s.after) is) refl refl;
       }
 
   with_one : (at : Window → Told) (ws : List Window) (w : Window) (best one all : Option Found) → all ≡ lesser_found best one →
@@ -427,6 +505,13 @@ module _ (p : ℕ) (ev : Events) (launches : Launches) (two : Window → Region 
             with_one (before_window p ev launches) ws w all.before found.before next.before before_is (so.before parts.0) (here.before parts.1);
         after = λ exact. let parts = any_parts ws w exact in
             with_one (after_window p ev launches) ws w all.after found.after next.after after_is (so.after parts.0) (here.after parts.1);
+        alike =
+            subst (λ (told : Told). AreAlike next told.slack (least (map (after_window p ev launches) (ws ++ w ∷ []))).slack)
+            (sym (least_map_more (before_window p ev launches) ws w))
+            (subst (λ (told : Told). AreAlike next (lesser (least (map (before_window p ev launches) ws)) (before_window p ev launches w)).slack told.slack)
+            (sym (least_map_more (after_window p ev launches) ws w))
+            (alike_lesser all found next (least (map (before_window p ev launches) ws)) (least (map (after_window p ev launches) ws))
+            (before_window p ev launches w) (after_window p ev launches w) so.alike here.alike before_is after_is));
       }
 
   -- the windows about the edges so far

@@ -13,13 +13,13 @@ use Rattle.slack_rows.specs.declared.slack.Slacks.{Slacks}
 use Rattle.slack_rows.specs.declared.slack.Told.{Told as Found}
 use Rattle.slack_rows.specs.Limit.{Case, by_arrivals, told_case, told_in}
 use Rattle.slack_rows.specs.Rows.{all_limits, limit_with, limits_at, limits_of, subjects}
-use Rattle.slack_rows.specs.Known.{SlacksKnown}
+use Rattle.slack_rows.specs.Known.{IsAlike, SlacksKnown}
 use Rattle.slack_rows.specs.Views.{Tells, slack_for}
 use Rattle.slack_rows.proofs.Levels.{get_first, get_second}
 use Rattle.slack_rows.proofs.Stepwise.{some_same}
 
 module _ (c : Circuit) where
-  word_at : (subject : Subject) (words : List Limit) (i : ℕ) (q : Parameter) → slice_get (map (limit_with c subject) words) i ≡ Some q →
+  pub word_at : (subject : Subject) (words : List Limit) (i : ℕ) (q : Parameter) → slice_get (map (limit_with c subject) words) i ≡ Some q →
       (q.subject ≡ subject) × (slice_get words i ≡ Some q.word)
   word_at subject [] i q at = absurd (cc)
   word_at subject (word ∷ words) zero q at =
@@ -57,7 +57,7 @@ told_now c ws one slacks limits i q are at same known sure =
     let read = read_some (limits_of c q.subject) found.0 q.word found.1 in
     subst (λ (waves : Waves). Tells (period c.header) (slack_for slacks q.word) (told_in c waves q.subject q.word)) (sym same)
     (subst (λ (word : Limit). Tells (period c.header) (slack_for slacks word) (told_in c ws q.subject word)) read.1
-    (known (ap (λ (waves : Waves). by_arrivals c waves q.subject) (sym same) ∙ sure) found.0 q.word read.0))
+    (known.exact (ap (λ (waves : Waves). by_arrivals c waves q.subject) (sym same) ∙ sure) found.0 q.word read.0))
 
 pub tells_now : (c : Circuit) (ws : Waves) (one : Case) (slacks : Slacks) (limits : List Parameter) (i : ℕ) (q : Parameter) (found : Option Found) →
     found ≡ slack_for slacks q.word → limits ≡ all_limits c → slice_get limits i ≡ Some q → one.waves ≡ ws →
@@ -66,3 +66,13 @@ pub tells_now : (c : Circuit) (ws : Waves) (one : Case) (slacks : Slacks) (limit
 tells_now c ws one slacks limits i q found is are at same known sure =
     subst (λ (o : Option Found). Tells (period c.header) o (told_case c q.subject q.word one)) (sym is)
     (told_now c ws one slacks limits i q are at same known sure)
+
+-- whatever arrivals say
+pub alike_now : (c : Circuit) (ws : Waves) (one : Case) (slacks : Slacks) (limits : List Parameter) (i : ℕ) (q : Parameter) →
+    limits ≡ all_limits c → slice_get limits i ≡ Some q → one.waves ≡ ws → SlacksKnown c ws (Some q.subject) slacks →
+    IsAlike (told_in c one.waves q.subject) slacks q.word
+alike_now c ws one slacks limits i q are at same known =
+    let found = word_of c (subjects c) i q (ap (λ (xs : List Parameter). slice_get xs i) (sym are) ∙ at) in
+    let read = read_some (limits_of c q.subject) found.0 q.word found.1 in
+    subst (λ (waves : Waves). IsAlike (told_in c waves q.subject) slacks q.word) (sym same)
+    (subst (λ (word : Limit). IsAlike (told_in c ws q.subject) slacks word) read.1 (known.alike found.0 q.word read.0))

@@ -11,15 +11,12 @@ use Rattle.slack_rows.specs.declared.parameter.Subject.{Subject}
 use Rattle.slack_rows.specs.declared.parameter.Word.{Word as Limit}
 use Rattle.slack_rows.specs.declared.parameter.Word.TheVariants.{Setup, Hold, High, Low, Gate, Before as GateBefore, After as GateAfter, Assert, From as StableFrom, To as StableTo}
 use Rattle.slack_rows.specs.declared.rows.Least.{Least}
-use Rattle.slack_rows.specs.declared.slack.Slack.{Slack as Number}
-use Rattle.slack_rows.specs.declared.slack.Slack.TheVariants.{NoNumber as NumberOfNone, Ticks as NumberOfTicks, Way as NumberOfWay}
-use Rattle.slack_rows.specs.Slack.{Slack, Free, Told, is_less}
+use Rattle.slack_rows.specs.Slack.{is_free}
 use Rattle.slack_rows.specs.Limit.{Case, least_told}
-use Rattle.slack_rows.specs.Rows.{all_limits, is_free, is_free_limit, is_level_free, level_beside, limit_with, limits_at, limits_of, row, subjects}
-use Rattle.slack_rows.specs.Known.{AreKnown, IsKnown, are_sure, free_by, is_sure, least_at}
-use Rattle.slack_rows.specs.Views.{slack_by, told_by_found}
+use Rattle.slack_rows.specs.Rows.{all_limits, is_free_limit, is_level_free, level_beside, limit_with, limits_at, limits_of, row, subjects}
+use Rattle.slack_rows.specs.Known.{AreKnown, free_by, least_at}
 use Rattle.slack_rows.proofs.Stepwise.{some_same}
-use Rattle.slack_rows.proofs.Totals.{at_0, sure_at}
+use Rattle.slack_rows.proofs.Totals.{at_0}
 
 -- ---- what stands so many places before
 
@@ -158,16 +155,7 @@ module _ (c : Circuit) where
     -- ---- what nothing can break
 
     module _ (cases : List Case) (limits : List Parameter) (least : List (Option Least)) (numbers : List ℕ) (sets : List (ℕ × ℕ))
-        (known : AreKnown c cases limits least numbers sets) (sure : are_sure c cases ≡ true) where
-      free_found : (q : Parameter) (found : Option Least) → IsKnown c cases sets q found → is_none found ≡ is_free (least_told c cases q.subject q.word).slack
-      free_found q None is = ap is_free (sym is)
-      free_found q (Some found) is = by found.told.slack ∙ ap (λ (told : Told). is_free told.slack) (sym is.told)
-        where
-          by : (n : Number) → false ≡ is_free (slack_by n)
-          by (NumberOfNone reason) = refl
-          by (NumberOfTicks n) = refl
-          by (NumberOfWay n) = refl
-
+        (known : AreKnown c cases limits least numbers sets) where
       at_index : (i : ℕ) → i < length least → slice_get least i ≡ Some (slice_index_or least i None)
       at_index i within = read least i within
         where
@@ -186,9 +174,7 @@ module _ (c : Circuit) where
       free_index i q at =
           let within = below_limits limits i q at in
           let long = known.count in
-          free_found q (slice_index_or least i None)
-          (known.each i q (slice_index_or least i None) at (at_index i (omega (arith, within, long)))
-          (sure_at c cases limits known.are_limits sure i q at))
+          known.free i q (slice_index_or least i None) at (at_index i (omega (arith, within, long)))
 
       free_back : (place back : ℕ) (subject : Subject) (word : Limit) → StandsAt limits place subject back word →
           is_none (least_at least place back) ≡ is_free (least_told c cases subject word).slack

@@ -1,6 +1,7 @@
-mod Examples
+pub mod Examples
 mod ExamplesWorked
 mod ExamplesEdges
+mod ExamplesOnce
 pub mod Ordered
 pub mod Listed
 pub mod Broken
@@ -54,3 +55,9 @@ pub mod Keeping
 pub mod Forms
 pub mod Bounded
 pub mod Checking
+pub mod Alike
+pub mod Paired
+pub mod Once
+pub mod Blocks
+pub mod Sided
+pub mod Merged

@@ -9,8 +9,8 @@ use Rattle.slack_rows.specs.declared.around.Side.TheVariants.{Before as LiesBefo
 use Rattle.slack_rows.specs.declared.window.Window.{Window as Ticks}
 use Rattle.slack_rows.specs.Window.{Window, Side, Late, Early, Either, begins_before, counts_after, counts_before, ends_after, is_after, is_before, is_early, is_late, meets, side_by_ends, side_of}
 use Rattle.slack_rows.specs.Slack.{is_open}
-use Rattle.slack_rows.specs.Views.{ahead_of, counts_first, counts_last, is_two, meets_window, side_in, window_in}
-use Rattle.slack_rows.specs.Held.{IsClose, IsCloseWindow, Lies, lies_by_ends, lies_open, region_in}
+use Rattle.slack_rows.specs.Views.{ahead_of, counts_first, counts_last, is_two, meets_window, side_in, window_in, region_in}
+use Rattle.slack_rows.specs.Held.{IsClose, IsCloseWindow, Lies, lies_by_ends, lies_open}
 use Rattle.slack_rows.proofs.Windows.{false_le, false_lt, lt_false, true_le, true_lt}
 
 -- ---- ticks

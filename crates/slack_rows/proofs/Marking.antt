@@ -1,5 +1,5 @@
 -- What is told of the pins beside a marked one, one after another, and of a net's steps in each direction.
-use Rattle.std.proofs.Common.{◌≡◌, ℕ, zero, suc, ◌+◌, ◌<◌, Bool, true, false, not, ◌&&◌, ◌||◌, cond, refl, sym, ap, subst, ◌∙◌, arith, zero-add, List, [], ◌∷◌, ◌++◌, map, Option, Some, None}
+use Rattle.std.proofs.Common.{◌≡◌, ℕ, zero, suc, ◌+◌, ◌<◌, Bool, true, false, not, ◌&&◌, ◌||◌, cond, refl, sym, ap, subst, ◌∙◌, arith, zero-add, List, [], ◌∷◌, ◌++◌, length, map, Option, Some, None}
 use Rattle.std.specs.Prelude.{filter}
 use Rattle.std.specs.Option.{option_map}
 use Rattle.step_values.specs.declared.value.Value.{Value}
@@ -12,6 +12,7 @@ use Rattle.critical_paths.specs.declared.region.Test.TheVariants.{Unlike}
 use Rattle.critical_paths.specs.Views.{passing}
 use Rattle.slack_rows.specs.Watch.{opens}
 use Rattle.slack_rows.specs.declared.slack.Reason.{Reason}
+use Rattle.slack_rows.specs.declared.slack.Reason.TheVariants.{Level}
 use Rattle.std.specs.List.{list_any, range_with_len}
 use Rattle.std.proofs.lemmas.List.Folds.{list_any-append}
 use Rattle.scald_base.specs.Time.{period}
@@ -30,9 +31,10 @@ use Rattle.slack_rows.specs.declared.slack.Slacks.{Slacks}
 use Rattle.slack_rows.specs.declared.slack.Told.{Told as Found}
 use Rattle.slack_rows.specs.Window.{Window, met}
 use Rattle.slack_rows.specs.Slack.{AtLevel, Free, NoNumber, Told, is_less, is_open, least, lesser, no_launches, told_after, told_alone, told_at, told_before, told_of, two_alone, two_in}
-use Rattle.slack_rows.specs.Limit.{beside_by_arrivals, in_windows, is_beside, told_never, told_outside, told_pin}
+use Rattle.slack_rows.specs.Limit.{beside_by_arrivals, in_windows, is_beside, mark_by_arrivals, told_mark, told_never, told_outside, told_pin}
 use Rattle.slack_rows.specs.Views.{Tells, lesser_found, slack_told, told_level_by}
-use Rattle.slack_rows.specs.Held.{IsLevelTold, TellBeside, TellDirections, TellParts, steps_watch}
+use Rattle.slack_rows.specs.Held.{AreAlike, IsLevelIn, IsLevelTold, TellBeside, TellDirections, TellParts, TellSides, steps_watch}
+use Rattle.slack_rows.proofs.Alike.{alike_lesser, alike_none, alike_same}
 use Rattle.slack_rows.proofs.Kept.{filter_more}
 use Rattle.slack_rows.proofs.Ordered.{before_free, free_is_last}
 use Rattle.slack_rows.proofs.Tellings.{least_more, least_passing_more, tells_lesser}
@@ -70,6 +72,7 @@ module _ (c : Circuit) (ws : Waves) (j : Instance) (marked : ℕ) where
     pub level : Tells (period c.header) found.level (told_to Gate n)
     pub before : list_any (beside_by_arrivals c ws j marked) (so_far n) ≡ false → Tells (period c.header) found.before (told_to GateBefore n)
     pub after : list_any (beside_by_arrivals c ws j marked) (so_far n) ≡ false → Tells (period c.header) found.after (told_to GateAfter n)
+    pub alike : AreAlike found (told_to GateBefore n).slack (told_to GateAfter n).slack
 
   pub marked_none : (all : Slacks) → all ≡ record { level = None; before = None; after = None } → MarkedTo 0 all
   marked_none all is =
@@ -77,6 +80,7 @@ module _ (c : Circuit) (ws : Waves) (j : Instance) (marked : ℕ) where
         level = subst (λ (o : Option Found). Tells (period c.header) o (told_to Gate 0)) (sym (ap (λ (s : Slacks). s.level) is)) refl;
         before = λ exact. subst (λ (o : Option Found). Tells (period c.header) o (told_to GateBefore 0)) (sym (ap (λ (s : Slacks). s.before) is)) refl;
         after = λ exact. subst (λ (o : Option Found). Tells (period c.header) o (told_to GateAfter 0)) (sym (ap (λ (s : Slacks). s.after) is)) refl;
+        alike = alike_none all Free Free (ap (λ (s : Slacks). s.before) is) (ap (λ (s : Slacks). s.after) is) refl refl;
       }
 
   far_more : (n : ℕ) (b : Bool) → is_beside j marked n ≡ b → so_far (n + 1) ≡ so_far n ++ cond b (n ∷ []) []
@@ -132,6 +136,12 @@ module _ (c : Circuit) (ws : Waves) (j : Instance) (marked : ℕ) where
                 with_one GateBefore all.before found.before next.before is before_is (so.before parts.0) (here.before is parts.1);
             after = λ exact. let parts = any_parts n is exact in
                 with_one GateAfter all.after found.after next.after is after_is (so.after parts.0) (here.after is parts.1);
+            alike =
+                subst (λ (told : Told). AreAlike next told.slack (told_to GateAfter (n + 1)).slack) (sym (told_more GateBefore n true is))
+                (subst (λ (told : Told). AreAlike next (lesser (told_to GateBefore n) (told_of n Change (told_pin c ws j GateBefore marked n))).slack told.slack)
+                (sym (told_more GateAfter n true is))
+                (alike_lesser all found next (told_to GateBefore n) (told_to GateAfter n) (told_of n Change (told_pin c ws j GateBefore marked n))
+                (told_of n Change (told_pin c ws j GateAfter marked n)) so.alike (here.alike is) before_is after_is));
           }
       by false is =
           let none = here.none is in
@@ -139,7 +149,22 @@ module _ (c : Circuit) (ws : Waves) (j : Instance) (marked : ℕ) where
             level = with_none Gate all.level found.level next.level is level_is none.0 so.level;
             before = λ exact. with_none GateBefore all.before found.before next.before is before_is none.1 (so.before (any_same n is exact));
             after = λ exact. with_none GateAfter all.after found.after next.after is after_is none.2 (so.after (any_same n is exact));
+            alike =
+                subst (λ (told : Told). AreAlike next told.slack (told_to GateAfter (n + 1)).slack) (sym (told_more GateBefore n false is))
+                (subst (λ (told : Told). AreAlike next (told_to GateBefore n).slack told.slack) (sym (told_more GateAfter n false is))
+                (alike_same all next (told_to GateBefore n).slack (told_to GateAfter n).slack so.alike
+                (before_is ∙ ap (lesser_found all.before) none.1 ∙ lesser_none all.before)
+                (after_is ∙ ap (lesser_found all.after) none.2 ∙ lesser_none all.after)));
           }
+
+  -- those of all places
+  pub marked_all : (n : ℕ) (found : Slacks) → n ≡ length j.pins → MarkedTo n found →
+      (Tells (period c.header) found.level (told_mark c ws j Gate (Some marked)))
+      × (TellSides (period c.header) (mark_by_arrivals c ws j (Some marked)) (told_mark c ws j GateBefore (Some marked))
+      (told_mark c ws j GateAfter (Some marked)) found)
+  marked_all n found all told =
+      let at : MarkedTo (length j.pins) found = subst (λ (k : ℕ). MarkedTo k found) all told in
+      (at.level, record { before = at.before; after = at.after; alike = at.alike })
 
 -- ---- directions of a net's steps
 
@@ -218,12 +243,18 @@ lets_are kind rest cells is = λ i t. rest_is (closes_of kind) rest (read cells 
 
 -- ---- a level beside the steps
 
-pub level_told : (p : ℕ) (found : Option Reason) (outside : Bool) (excess : Option ℕ) → IsLevelTold found outside excess →
+pub level_told : (p : ℕ) (high : ℕ → Bool) (found : Option Reason) (outside : Bool) (excess : Option ℕ) → IsLevelTold high found outside excess →
     Tells p (told_level_by found) (told_outside outside excess)
-level_told p found true excess none = subst (λ (o : Option Reason). Tells p (told_level_by o) (told_alone Free)) (sym none) refl
-level_told p found false None none = subst (λ (o : Option Reason). Tells p (told_level_by o) (told_alone Free)) (sym none) refl
-level_told p found false (Some slot) (high, is) =
-    subst (λ (o : Option Reason). Tells p (told_level_by o) (told_at NoNumber (AtLevel slot))) (sym is) refl
+level_told p high found true excess none = subst (λ (o : Option Reason). Tells p (told_level_by o) (told_alone Free)) (sym none) refl
+level_told p high found false None none = subst (λ (o : Option Reason). Tells p (told_level_by o) (told_alone Free)) (sym none) refl
+level_told p high found false (Some slot) is =
+    subst (λ (o : Option Reason). Tells p (told_level_by o) (told_at NoNumber (AtLevel slot))) (sym is) record { is = refl; near = tt }
+
+-- a level that is not permitted
+pub level_is : (high : ℕ → Bool) (found : Option Reason) (outside : Bool) (excess : Option ℕ) (slot : ℕ) → outside ≡ false →
+    excess ≡ Some slot → found ≡ Some (Level (high slot) slot) → IsLevelTold high found outside excess
+level_is high found outside excess slot none is level =
+    subst (λ (b : Bool). IsLevelTold high found b excess) (sym none) (subst (IsLevelIn high found) (sym is) level)
 
 pub with_outside : (p : ℕ) (best found all : Option Found) (tellings : List Told) (told : Told) → all ≡ lesser_found best found →
     Tells p best (least tellings) → Tells p found told → Tells p all (least (tellings ++ told ∷ []))

@@ -1,6 +1,6 @@
 -- The last change before a window and the first after it, among the regions of eight periods.
 use Rattle.std.proofs.Common.{inl, inr, ◌≡◌, ℕ, zero, suc, ◌+◌, ◌-◌, ◌*◌, ◌<◌, ◌≤◌, Bool, true, false, not, ◌&&◌, ◌||◌, cond, refl, sym, ap, subst, ◌∙◌, arith, List, [], ◌∷◌, map, Option, Some, None}
-use Rattle.std.specs.Prelude.{filter, nat_le, nat_lt}
+use Rattle.std.specs.Prelude.{IfSome, filter, nat_le, nat_lt}
 use Rattle.std.specs.List.{range_with_len}
 use Rattle.std.specs.Option.{option_map, option_or}
 use Rattle.std.proofs.lemmas.Bool.{and_from, and_parts, cases_eq, cases_lt}
@@ -361,6 +361,9 @@ module _ (p : ℕ) (ev : Events) (cyclic : IsCyclic p ev) (long : 2 ≤ p) (z : 
                 absurd (cc (sym (not_first p ev cyclic long c.first c.last c.region r.first (omega (arith, no_later, other)) (omega (arith, ordered, less))) ∙ known.begin))
           ]
 
+      made_to : region_to p ev r.last ≡ r
+      made_to = ap (region_to p ev) last_is ∙ region_to_is p ev cyclic long r.first l region ∙ sym same_region
+
       here_counts : counts_before side w (region_to p ev l) ≡ true
       here_counts = ap (counts_before side w) (region_to_is p ev cyclic long r.first l region ∙ sym same_region) ∙ known.counts
 
@@ -397,3 +400,18 @@ module _ (p : ℕ) (ev : Events) (cyclic : IsCyclic p ev) (long : 2 ≤ p) (z : 
             none_counts u c = absurd (cc (sym (known c.first (omega arith) (let under = c.under in omega (arith, under)) (first_tick p ev cyclic long c.first c.last c.region))
                 ∙ ap (counts_before side w) (region_from_is p ev cyclic long c.first c.last c.region) ∙ c.counts))
         by (Some r) known = let begun = begins r.first known.begin in found r known begun.0 begun.1
+
+    -- both are regions by their own ends
+    pub last_made : IfSome (last_item (passing (counts_before side w) 0 (8 * p))) (λ r. region_to p ev r.last ≡ r)
+    last_made = by (last_item (passing (counts_before side w) 0 (8 * p))) (last_known (counts_before side w) (8 * p) 0)
+      where
+        by : (o : Option Region) → LastKnown (counts_before side w) 0 (8 * p) o → IfSome o (λ r. region_to p ev r.last ≡ r)
+        by None known = tt
+        by (Some r) known = let begun = begins r.first known.begin in made_to r known begun.0 begun.1
+
+    pub first_made : IfSome (first_item (passing (counts_after side w) 0 (8 * p))) (λ r. region_from p ev r.first ≡ r)
+    first_made = by (first_item (passing (counts_after side w) 0 (8 * p))) (first_known (counts_after side w) (8 * p) 0)
+      where
+        by : (o : Option Region) → FirstKnown (counts_after side w) 0 (8 * p) o → IfSome o (λ r. region_from p ev r.first ≡ r)
+        by None known = tt
+        by (Some r) known = known.made

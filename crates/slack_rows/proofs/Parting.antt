@@ -43,15 +43,16 @@ use Rattle.slack_rows.specs.declared.sides.Held.{Held}
 use Rattle.slack_rows.specs.declared.slack.Slacks.{Slacks}
 use Rattle.slack_rows.specs.declared.slack.Told.{Told as Found}
 use Rattle.slack_rows.specs.Window.{Window, about, ahead}
-use Rattle.slack_rows.specs.Slack.{Free, Launches, NoNumber, Told, Watch, after_window, before_window, least, least_from, told_after, told_alone, told_before, told_by, told_of, two_in}
+use Rattle.slack_rows.specs.Slack.{Free, Launches, NoNumber, Told, Watch, after_window, before_window, is_met, least, least_from, told_after, told_alone, told_before, told_by, told_of, two_in}
 use Rattle.slack_rows.specs.Watch.{opens, rise_watch, span_watch}
 use Rattle.slack_rows.specs.Launched.{are_two, checker_launches, gate_launches, launches_at, opening, side_by, two_at_ends, two_by}
 use Rattle.slack_rows.specs.Limit.{beside_by_arrivals, check_by_arrivals, edge_limits, has_no_window, in_windows, is_beside, is_by_arrivals, least_still, pin_folds, rises_of, spans_of, still_after, still_before, told_check, told_edge, told_never, told_pin, told_rise, told_span, told_still, watch_beside}
-use Rattle.slack_rows.specs.Views.{Tells, checks_edges, told_by_found, told_none}
-use Rattle.slack_rows.specs.Held.{TellBeside, TellParts, TellWatch, TellWindows, launches_of, two_of, watch_at}
+use Rattle.slack_rows.specs.Views.{IsTold, Tells, checks_edges}
+use Rattle.slack_rows.specs.Held.{AreAlike, TellBeside, TellParts, TellWatch, TellWindows, launches_of, two_of, watch_at}
 use Rattle.slack_rows.proofs.Checkers.{edges_short}
 use Rattle.slack_rows.proofs.Nothing.{nothing_from}
-use Rattle.slack_rows.proofs.Watching.{all_here, same_ways, some_where_all, tells_free, told_always, told_free, told_unmet, told_windows}
+use Rattle.slack_rows.proofs.Alike.{alike_none, alike_told}
+use Rattle.slack_rows.proofs.Watching.{all_here, alike_ways, or_parts, same_ways, some_where_all, tells_free, told_always, told_free, told_unmet, told_windows}
 use Rattle.slack_rows.proofs.Watched.{in_some_slot}
 
 and_none : (a : Bool) → (a && false) ≡ false
@@ -98,6 +99,10 @@ module _ (p : ℕ) (long : 2 ≤ p) (ev quiet : Events) (cyclic : IsCyclic p ev)
             (ap (λ (s : Slacks). s.level) is);
         before = λ exact. tells_free p pin d (told_before p launches parts) found.before (told_free before p parts launches.last_way none) (ap (λ (s : Slacks). s.before) is);
         after = λ exact. tells_free p pin d (told_after p launches parts) found.after (told_free after p parts launches.first_way none) (ap (λ (s : Slacks). s.after) is);
+        alike = alike_none found (told_before p launches parts).slack (told_after p launches parts).slack
+            (ap (λ (s : Slacks). s.before) is) (ap (λ (s : Slacks). s.after) is)
+            (ap (λ (t : Told). t.slack) (told_free before p parts launches.last_way none))
+            (ap (λ (t : Told). t.slack) (told_free after p parts launches.first_way none));
       }
 
   pub parts_unmet : regions p quiet ≡ [] → all_events p quiet ≡ false → found ≡ record { level = None; before = None; after = None } →
@@ -109,17 +114,25 @@ module _ (p : ℕ) (long : 2 ≤ p) (ev quiet : Events) (cyclic : IsCyclic p ev)
             (ap (λ (s : Slacks). s.level) is);
         before = λ exact. tells_free p pin d (told_before p launches parts) found.before (told_unmet before p parts launches.last_way (no_windows none) refl) (ap (λ (s : Slacks). s.before) is);
         after = λ exact. tells_free p pin d (told_after p launches parts) found.after (told_unmet after p parts launches.first_way (no_windows none) refl) (ap (λ (s : Slacks). s.after) is);
+        alike = alike_none found (told_before p launches parts).slack (told_after p launches parts).slack
+            (ap (λ (s : Slacks). s.before) is) (ap (λ (s : Slacks). s.after) is)
+            (ap (λ (t : Told). t.slack) (told_unmet before p parts launches.last_way (no_windows none) refl))
+            (ap (λ (t : Told). t.slack) (told_unmet after p parts launches.first_way (no_windows none) refl));
       }
 
-  pub parts_never : (told : Found) → all_events p quiet ≡ true → some_event p ev ≡ true → told_of pin d (told_alone NoNumber) ≡ told_by_found p told →
+  pub parts_never : (told : Found) → all_events p quiet ≡ true → some_event p ev ≡ true → IsTold p told (told_of pin d (told_alone NoNumber)) →
       found ≡ record { level = Some told; before = None; after = None } → TellParts p launches two pin d watch found
   parts_never told all some told_is is =
       let none = all_here p quiet still_cyclic long all in
       record {
         level = subst (λ (o : Option Found). Tells p o (told_of pin d (told_never p watch))) (sym (ap (λ (s : Slacks). s.level) is))
-            (ap (told_of pin d) (λ i. cond (all i && some i) (told_alone NoNumber) (told_alone Free)) ∙ told_is);
+            (subst (IsTold p told) (sym (ap (told_of pin d) (λ i. cond (all i && some i) (told_alone NoNumber) (told_alone Free)))) told_is);
         before = λ exact. tells_free p pin d (told_before p launches parts) found.before (told_unmet before p parts launches.last_way (no_windows none) refl) (ap (λ (s : Slacks). s.before) is);
         after = λ exact. tells_free p pin d (told_after p launches parts) found.after (told_unmet after p parts launches.first_way (no_windows none) refl) (ap (λ (s : Slacks). s.after) is);
+        alike = alike_none found (told_before p launches parts).slack (told_after p launches parts).slack
+            (ap (λ (s : Slacks). s.before) is) (ap (λ (s : Slacks). s.after) is)
+            (ap (λ (t : Told). t.slack) (told_unmet before p parts launches.last_way (no_windows none) refl))
+            (ap (λ (t : Told). t.slack) (told_unmet after p parts launches.first_way (no_windows none) refl));
       }
 
   windows_met : (regions p quiet ≡ [] → ⊥) → watch.windows ≡ [] → ⊥
@@ -132,20 +145,32 @@ module _ (p : ℕ) (long : 2 ≤ p) (ev quiet : Events) (cyclic : IsCyclic p ev)
   never_is : all_events p quiet ≡ false → told_never p watch ≡ told_alone Free
   never_is some = ap (λ (s : Bool). cond (s && some_event p ev) (told_alone NoNumber) (told_alone Free)) some
 
-  pub parts_always : (told : Found) → all_events p quiet ≡ false → (regions p quiet ≡ [] → ⊥) → all_events p ev ≡ true →
-      told_of pin d (told_alone NoNumber) ≡ told_by_found p told →
-      found ≡ record { level = None; before = Some told; after = Some told } → TellParts p launches two pin d watch found
-  parts_always told some met all told_is is =
-      let event = some_where_all p ev cyclic long all in
-      record {
-        level = tells_free p pin d (told_never p watch) found.level (never_is some) (ap (λ (s : Slacks). s.level) is);
-        before = λ exact.
-            subst (λ (o : Option Found). Tells p o (told_of pin d (told_before p launches parts))) (sym (ap (λ (s : Slacks). s.before) is))
-            (ap (told_of pin d) (ap (λ way. told_by before way p parts) no_last ∙ told_always before p parts event all refl (windows_met met)) ∙ told_is);
-        after = λ exact.
-            subst (λ (o : Option Found). Tells p o (told_of pin d (told_after p launches parts))) (sym (ap (λ (s : Slacks). s.after) is))
-            (ap (told_of pin d) (ap (λ way. told_by after way p parts) no_first ∙ told_always after p parts event all refl (windows_met met)) ∙ told_is);
-      }
+  module _ (told : Found) (some : all_events p quiet ≡ false) (met : regions p quiet ≡ [] → ⊥) (all : all_events p ev ≡ true)
+      (told_is : IsTold p told (told_of pin d (told_alone NoNumber)))
+      (is : found ≡ record { level = None; before = Some told; after = Some told }) where
+    always_before : Tells p found.before (told_of pin d (told_before p launches parts))
+    always_before =
+        let event = some_where_all p ev cyclic long all in
+        subst (λ (o : Option Found). Tells p o (told_of pin d (told_before p launches parts))) (sym (ap (λ (s : Slacks). s.before) is))
+        (subst (IsTold p told)
+        (sym (ap (told_of pin d) (ap (λ way. told_by before way p parts) no_last ∙ told_always before p parts event all refl (windows_met met)))) told_is)
+
+    always_after : Tells p found.after (told_of pin d (told_after p launches parts))
+    always_after =
+        let event = some_where_all p ev cyclic long all in
+        subst (λ (o : Option Found). Tells p o (told_of pin d (told_after p launches parts))) (sym (ap (λ (s : Slacks). s.after) is))
+        (subst (IsTold p told)
+        (sym (ap (told_of pin d) (ap (λ way. told_by after way p parts) no_first ∙ told_always after p parts event all refl (windows_met met)))) told_is)
+
+    pub parts_always : TellParts p launches two pin d watch found
+    parts_always =
+        record {
+          level = tells_free p pin d (told_never p watch) found.level (never_is some) (ap (λ (s : Slacks). s.level) is);
+          before = λ exact. always_before;
+          after = λ exact. always_after;
+          alike = alike_told p found (told_of pin d (told_before p launches parts)) (told_of pin d (told_after p launches parts))
+              always_before always_after;
+        }
 
   pub parts_windows : (windows : List Window) → windows ≡ watch.windows → all_events p quiet ≡ false → some_event p ev ≡ true → all_events p ev ≡ false →
       TellWindows p ev launches two pin d windows found → TellParts p launches two pin d watch found
@@ -160,6 +185,11 @@ module _ (p : ℕ) (long : 2 ≤ p) (ev quiet : Events) (cyclic : IsCyclic p ev)
             subst (Tells p found.after)
             (ap (told_of pin d) (ap (λ (ws : List Window). least (map after ws)) are ∙ sym (told_windows after p parts launches.first_way event not_all refl)))
             (tells.after (ap (list_any (two_in p ev two)) are ∙ exact));
+        alike =
+            subst (λ (t : Told). AreAlike found t.slack (told_after p launches parts).slack)
+            (ap (λ (ws : List Window). least (map before ws)) are ∙ sym (told_windows before p parts launches.last_way event not_all refl))
+            (subst (λ (t : Told). AreAlike found (least (map before windows)).slack t.slack)
+            (ap (λ (ws : List Window). least (map after ws)) are ∙ sym (told_windows after p parts launches.first_way event not_all refl)) tells.alike);
       }
 
 -- ---- pins of an instance
@@ -220,12 +250,11 @@ module _ (c : Circuit) (ws : Waves) where
     exactly : is_by_arrivals (period c.header) (two_at_ends c ws j 0 1 Rise) watch ≡ false → is_by_arrivals (period c.header) (two_of c ws (Some held)) watch ≡ false
     exactly exact = ap (λ (two : Window → Region → Bool). is_by_arrivals (period c.header) two watch) (twos_are j 0 1 Rise held pin_is clock_is opens_is) ∙ exact
 
-    not_always : is_by_arrivals (period c.header) (two_at_ends c ws j 0 1 Rise) watch ≡ false → all_events (period c.header) watch.changes ≡ false
-    not_always exact = by (all_events (period c.header) watch.changes) exact
-      where
-        by : (b : Bool) → (b || list_any (two_in (period c.header) watch.changes (two_at_ends c ws j 0 1 Rise)) watch.windows) ≡ false → b ≡ false
-        by true is = absurd (cc)
-        by false is = refl
+    unmet : is_by_arrivals (period c.header) (two_at_ends c ws j 0 1 Rise) watch ≡ false →
+        (all_events (period c.header) watch.changes && is_met watch.windows false) ≡ false
+    unmet exact =
+        (or_parts (all_events (period c.header) watch.changes && is_met watch.windows false)
+        (list_any (two_in (period c.header) watch.changes (two_at_ends c ws j 0 1 Rise)) watch.windows) exact).0
 
     pub check_before : is_by_arrivals (period c.header) (two_at_ends c ws j 0 1 Rise) watch ≡ false →
         Tells (period c.header) found.before (told_of 1 Change (told_before (period c.header) (checker_launches c ws j closing watch.windows) watch))
@@ -234,7 +263,7 @@ module _ (c : Circuit) (ws : Waves) where
         subst (Tells (period c.header) found.before)
         (ap (told_of 1 Change) (ap (λ (l : Launches). told_before (period c.header) l watch) launches
         ∙ same_ways (before_window (period c.header) watch.changes (launches_at c ws j 0 1 Rise)) (period c.header) watch None
-        (checker_launches c ws j closing watch.windows).last_way (not_always exact)))
+        (checker_launches c ws j closing watch.windows).last_way (unmet exact)))
         (told.before (exactly exact))
 
     pub check_after : is_by_arrivals (period c.header) (two_at_ends c ws j 0 1 Rise) watch ≡ false →
@@ -244,8 +273,25 @@ module _ (c : Circuit) (ws : Waves) where
         subst (Tells (period c.header) found.after)
         (ap (told_of 1 Change) (ap (λ (l : Launches). told_after (period c.header) l watch) launches
         ∙ same_ways (after_window (period c.header) watch.changes (launches_at c ws j 0 1 Rise)) (period c.header) watch None
-        (checker_launches c ws j closing watch.windows).first_way (not_always exact)))
+        (checker_launches c ws j closing watch.windows).first_way (unmet exact)))
         (told.after (exactly exact))
+
+    pub check_alike : AreAlike found (told_before (period c.header) (checker_launches c ws j closing watch.windows) watch).slack
+        (told_after (period c.header) (checker_launches c ws j closing watch.windows) watch).slack
+    check_alike =
+        let launches = launches_are j 0 1 Rise held pin_is clock_is opens_is in
+        let at : AreAlike found (told_before (period c.header) (launches_at c ws j 0 1 Rise) watch).slack
+        (told_after (period c.header) (launches_at c ws j 0 1 Rise) watch).slack =
+        subst (λ (l : Launches). AreAlike found (told_before (period c.header) l watch).slack (told_after (period c.header) l watch).slack) launches told.alike in
+        let last = alike_ways (before_window (period c.header) watch.changes (launches_at c ws j 0 1 Rise)) (period c.header) watch None
+        (checker_launches c ws j closing watch.windows).last_way in
+        let first = alike_ways (after_window (period c.header) watch.changes (launches_at c ws j 0 1 Rise)) (period c.header) watch None
+        (checker_launches c ws j closing watch.windows).first_way in
+        record {
+          before = at.before ∙ last.0;
+          after = at.after ∙ first.0;
+          broken = at.broken ∙ (λ i. last.1 i || first.1 i);
+        }
 
   -- ---- a pin beside a marked one
 
@@ -272,6 +318,7 @@ module _ (c : Circuit) (ws : Waves) where
         level = λ is. at.level;
         before = λ is exact. at.before exact;
         after = λ is exact. at.after exact;
+        alike = λ is. at.alike;
         none = λ is. absurd (cc (sym beside ∙ is));
       }
 

@@ -1,6 +1,6 @@
 -- One case more, limit by limit.
 use Rattle.std.proofs.Common.{inl, inr, ◌≡◌, ◌⊎◌, ℕ, zero, suc, ◌+◌, ◌<◌, ◌≤◌, Bool, true, false, not, ◌&&◌, ◌||◌, cond, refl, sym, ap, subst, ◌∙◌, arith, List, [], ◌∷◌, ◌++◌, map, length, Option, Some, None}
-use Rattle.std.specs.Prelude.{slice_get, slice_set}
+use Rattle.std.specs.Prelude.{is_none, slice_get, slice_set}
 use Rattle.std.specs.List.{AllByRecursion, list_any}
 use Rattle.std.proofs.lemmas.Bool.{cases_eq}
 use Rattle.std.proofs.lemmas.List.{length-set, map-append}
@@ -10,10 +10,10 @@ use Rattle.slack_rows.specs.declared.parameter.Parameter.{Parameter}
 use Rattle.slack_rows.specs.declared.parameter.Subject.{Subject}
 use Rattle.slack_rows.specs.declared.rows.Least.{Least}
 use Rattle.slack_rows.specs.declared.slack.Told.{Told as Found}
-use Rattle.slack_rows.specs.Slack.{is_less}
-use Rattle.slack_rows.specs.Limit.{Case, by_arrivals, told_case}
-use Rattle.slack_rows.specs.Rows.{all_limits}
-use Rattle.slack_rows.specs.Known.{AreKnown, AreSets, IfFound, IsFirst, IsJoined, IsKept, IsKnown, IsLeast, IsLowered, IsLoweredBy, IsNumbered, IsSetWith, is_sure, numbers_of, places_of}
+use Rattle.slack_rows.specs.Slack.{is_broken, is_free, is_less}
+use Rattle.slack_rows.specs.Limit.{Case, by_arrivals, least_told, told_case}
+use Rattle.slack_rows.specs.Rows.{all_limits, partner}
+use Rattle.slack_rows.specs.Known.{AreKnown, AreSets, BreaksBoth, IfFound, IsFirst, IsJoined, IsKept, IsKnown, IsLeast, IsLowered, IsLoweredBy, IsNumbered, IsSetWith, breaks, is_sure, may_be_two, numbers_of, places_of}
 use Rattle.slack_rows.specs.Views.{Tells, slack_by}
 use Rattle.slack_rows.proofs.Casewise.{known_more}
 use Rattle.slack_rows.proofs.Places.{number_within, places_same, sets_longer, sets_more}
@@ -46,6 +46,11 @@ pub item_at : {A : Type 0} (xs : List A) (i : ℕ) → i < length xs → (x : A)
 item_at [] i within = absurd (omega (arith, within))
 item_at (x ∷ xs) zero within = (x, refl)
 item_at (x ∷ xs) (suc i) within = item_at xs i (omega (arith, within))
+
+pub within_list : {A : Type 0} (xs : List A) (i : ℕ) (x : A) → slice_get xs i ≡ Some x → i < length xs
+within_list [] i x at = absurd (cc)
+within_list (y ∷ xs) zero x at = omega arith
+within_list (y ∷ xs) (suc i) x at = let below = within_list xs i x at in omega (arith, below)
 
 -- ---- what is sure
 
@@ -129,12 +134,22 @@ known_grown c cases q sets new (Some least) found more numbered known =
     let same : places_of new least.cases ≡ places_of sets least.cases = more.same least.cases numbered in
     record {
       told = known.told;
+      in_case = known.in_case;
       have_it = ap (numbers_of (map (λ (case : Case). case.number) cases)) same ∙ known.have_it;
       first = (known.first.0, same ∙ known.first.1);
       within = subst (AllByRecursion (λ place. place < length cases)) (sym same) known.within;
     }
 
 -- ---- limit by limit
+
+-- whatever arrivals say
+pub record IsAlikeIn (c : Circuit) (cases : List Case) (limits : List Parameter) (least : List (Option Least)) : Type 0 where
+  pub free : (i : ℕ) (q : Parameter) (found : Option Least) → slice_get limits i ≡ Some q →
+      slice_get least i ≡ Some found → is_none found ≡ is_free (least_told c cases q.subject q.word).slack
+  pub alone : (i : ℕ) (q : Parameter) (found : Option Least) → slice_get limits i ≡ Some q →
+      slice_get least i ≡ Some found → may_be_two q.word ≡ false →
+      breaks found ≡ is_broken (least_told c cases q.subject q.word).slack
+  pub both : (i : ℕ) (q : Parameter) → slice_get limits i ≡ Some q → BreaksBoth c cases least i q (partner q.word)
 
 module _ (c : Circuit) (cases : List Case) (one : Case) where
   -- what is known where the limits up to a place have the new case too
@@ -160,15 +175,10 @@ module _ (c : Circuit) (cases : List Case) (one : Case) where
         left = λ i q found from at is sure. known.each i q found at is sure;
       }
 
-  within_limits : {A : Type 0} (xs : List A) (i : ℕ) (x : A) → slice_get xs i ≡ Some x → i < length xs
-  within_limits [] i x at = absurd (cc)
-  within_limits (y ∷ xs) zero x at = omega arith
-  within_limits (y ∷ xs) (suc i) x at = let below = within_limits xs i x at in omega (arith, below)
-
   pub passed_all : (limits : List Parameter) (least : List (Option Least)) (sets : List (ℕ × ℕ)) (place : ℕ) (numbers more : List ℕ) →
       length limits ≤ place → numbers ≡ map (λ (case : Case). case.number) cases → more ≡ numbers ++ one.number ∷ [] →
-      Passed limits least sets place → AreKnown c (cases ++ one ∷ []) limits least more sets
-  passed_all limits least sets place numbers more past are is passed =
+      Passed limits least sets place → IsAlikeIn c (cases ++ one ∷ []) limits least → AreKnown c (cases ++ one ∷ []) limits least more sets
+  passed_all limits least sets place numbers more past are is passed alike =
       record {
         are_limits = passed.are_limits;
         count = passed.count;
@@ -177,7 +187,10 @@ module _ (c : Circuit) (cases : List Case) (one : Case) where
         are_sets = passed.are_sets;
         numbered = passed.numbered;
         each = λ i q found at known sure.
-            (let below = within_limits limits i q at in passed.done i q found (omega (arith, below, past)) at known sure);
+            (let below = within_list limits i q at in passed.done i q found (omega (arith, below, past)) at known sure);
+        free = alike.free;
+        alone = alike.alone;
+        both = alike.both;
       }
 
   pub passed_more : (limits : List Parameter) (least next : List (Option Least)) (sets new : List (ℕ × ℕ)) (place : ℕ) (q : Parameter)
@@ -188,7 +201,7 @@ module _ (c : Circuit) (cases : List Case) (one : Case) where
   passed_more limits least next sets new place q old found told case at here is last tells lowered passed =
       let numbered : IsNumbered sets old = passed.numbered place old here in
       let more : Grown sets new found = grown sets new old found told case passed.are_sets numbered lowered in
-      let within : place < length least = within_limits least place old here in
+      let within : place < length least = within_list least place old here in
       let found_here : slice_get next place ≡ Some found =
       ap (λ (xs : List (Option Least)). slice_get xs place) is ∙ at_set least place found within in
       let beside : (j : ℕ) → (place ≡ j → ⊥) → slice_get next j ≡ slice_get least j =

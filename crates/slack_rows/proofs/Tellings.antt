@@ -18,7 +18,7 @@ use Rattle.slack_rows.proofs.Kept.{filter_more}
 
 pub told_slack : (p : ℕ) (found : Option Found) (told : Told) → Tells p found told → slack_told found ≡ told.slack
 told_slack p None told tells = sym tells
-told_slack p (Some f) told tells = ap (λ (t : Told). t.slack) (sym tells)
+told_slack p (Some f) told tells = ap (λ (t : Told). t.slack) (sym tells.is)
 
 pub tells_lesser : (p : ℕ) (best found : Option Found) (a b : Told) → Tells p best a → Tells p found b → Tells p (lesser_found best found) (lesser a b)
 tells_lesser p best found a b first second =

@@ -9,10 +9,9 @@ use Rattle.slack_rows.specs.declared.parameter.Parameter.{Parameter}
 use Rattle.slack_rows.specs.declared.parameter.Subject.{Subject}
 use Rattle.slack_rows.specs.declared.parameter.Word.{Word as Limit}
 use Rattle.slack_rows.specs.declared.rows.Least.{Least}
-use Rattle.slack_rows.specs.Slack.{Slack, Free, Told, is_broken}
-use Rattle.slack_rows.specs.Limit.{Case, least_told}
-use Rattle.slack_rows.specs.Rows.{all_limits, limit_with, limits_at, limits_of, some_broken, subjects}
-use Rattle.slack_rows.specs.Known.{AreKnown, IsKnown, are_sure, breaks, is_sure, least_at}
+use Rattle.slack_rows.specs.Limit.{Case}
+use Rattle.slack_rows.specs.Rows.{all_limits, limit_with, limits_at, limits_of, subjects}
+use Rattle.slack_rows.specs.Known.{are_sure, breaks, is_sure, least_at}
 
 -- ---- counted
 
@@ -90,17 +89,6 @@ count_all least place count past so_far = so_far ∙ ap (λ (xs : List (Option L
 
 -- ---- of limits
 
-any_same : (test : Parameter → Bool) (limits : List Parameter) (least : List (Option Least)) → length least ≡ length limits →
-    ((i : ℕ) (q : Parameter) (found : Option Least) → slice_get limits i ≡ Some q → slice_get least i ≡ Some found → breaks found ≡ test q) →
-    list_any breaks least ≡ list_any test limits
-any_same test [] [] long each = refl
-any_same test [] (found ∷ least) long each = absurd (omega (arith, long))
-any_same test (q ∷ limits) [] long each = absurd (omega (arith, long))
-any_same test (q ∷ limits) (found ∷ least) long each =
-    ap (λ (b : Bool). b || list_any breaks least) (each 0 q found refl refl)
-    ∙ ap (λ (b : Bool). test q || b)
-    (any_same test limits least (omega (arith, long)) (λ i p some at here. each (suc i) p some at here))
-
 all_append : {A : Type 0} (P : A → Type 0) (xs ys : List A) → AllByRecursion P xs → AllByRecursion P ys → AllByRecursion P (xs ++ ys)
 all_append P [] ys first second = second
 all_append P (x ∷ xs) ys first second = (first.0, all_append P xs ys first.1 second)
@@ -137,18 +125,3 @@ module _ (c : Circuit) (cases : List Case) where
       slice_get limits i ≡ Some q → is_sure c cases q.subject ≡ true
   sure_at limits are sure i q at =
       all_at IsSureOf (all_limits c) i q (of_subjects (subjects c) sure) (ap (λ (xs : List Parameter). slice_get xs i) (sym are) ∙ at)
-
-  abbrev breaks_of : Parameter → Bool
-  breaks_of q = is_broken (least_told c cases q.subject q.word).slack
-
-  known_breaks : (sets : List (ℕ × ℕ)) (q : Parameter) (found : Option Least) → IsKnown c cases sets q found → breaks found ≡ breaks_of q
-  known_breaks sets q None known = ap is_broken (sym known)
-  known_breaks sets q (Some found) known = ap (λ (told : Told). is_broken told.slack) (sym known.told)
-
-  pub all_broken : (limits : List Parameter) (least : List (Option Least)) (numbers : List ℕ) (sets : List (ℕ × ℕ)) →
-      AreKnown c cases limits least numbers sets → are_sure c cases ≡ true → list_any breaks least ≡ some_broken c cases
-  all_broken limits least numbers sets known sure =
-      any_same breaks_of limits least known.count
-      (λ i q found at here. known_breaks sets q found (known.each i q found at here
-      (sure_at limits known.are_limits sure i q at)))
-      ∙ ap (list_any breaks_of) known.are_limits

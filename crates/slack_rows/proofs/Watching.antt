@@ -2,7 +2,7 @@
 use Rattle.std.proofs.Common.{inl, inr, ◌≡◌, ◌⊎◌, ℕ, zero, suc, ◌+◌, ◌-◌, ◌*◌, ◌%◌, ◌<◌, ◌≤◌, Bool, true, false, not, ◌&&◌, ◌||◌, cond, refl, sym, ap, subst, ◌∙◌, arith, List, [], ◌∷◌, ◌++◌, length, map, Option, Some, None}
 use Rattle.std.specs.Prelude.{ℤ, pos, negsuc, ◌+ℤ◌, ◌-ℤ◌, ◌≤ℤ◌, ◌==◌, filter, filter_map, slice_get, unsigned_abs}
 use Rattle.std.specs.List.{All, AllByRecursion, cons_option, list_any, range_with_len}
-use Rattle.std.proofs.lemmas.Bool.{and_parts, cases_eq}
+use Rattle.std.proofs.lemmas.Bool.{and_parts, cases_eq, ne_eqb}
 use Rattle.slack_rows.proofs.Cycles.{in_slot}
 use Rattle.std.proofs.lemmas.Int.{ints}
 use Rattle.std.proofs.lemmas.List.Elements.{All-cons, All-map, All-nil}
@@ -26,11 +26,12 @@ use Rattle.slack_rows.specs.declared.sides.Held.{Held}
 use Rattle.slack_rows.specs.declared.slack.Slacks.{Slacks}
 use Rattle.slack_rows.specs.declared.slack.Told.{Told as Found}
 use Rattle.slack_rows.specs.Window.{Window, about}
-use Rattle.slack_rows.specs.Slack.{Free, Launches, NoNumber, Nowhere, Told, Watch, after_window, before_window, is_met, least, told_after, told_alone, told_before, told_by, told_of, two_in, without_number}
+use Rattle.slack_rows.specs.Slack.{Free, Launches, NoNumber, Nowhere, Told, Watch, after_window, before_window, by_way, is_broken, is_free, is_met, least, told_after, told_alone, told_before, told_by, told_of, two_in, without_number}
 use Rattle.slack_rows.specs.Limit.{in_windows, is_by_arrivals, told_never}
 use Rattle.slack_rows.specs.Laws.{IsPlaced}
-use Rattle.slack_rows.specs.Views.{Tells, ahead_of, told_by_found, told_none, window_about, window_in}
-use Rattle.slack_rows.specs.Held.{AreChanges, AreSlots, IsInPeriod, IsSlots, TellParts, TellWatch, TellWindows, lacking, launches_of, place_in, two_of, watch_at, windows_about}
+use Rattle.slack_rows.specs.Views.{IsTold, Tells, ahead_of, is_starred, slack_told, window_about, window_in}
+use Rattle.slack_rows.specs.Held.{AreAlike, AreChanges, AreOfWays, AreSlots, IsInPeriod, IsSlots, TellParts, TellWatch, TellWindows, lacking, launches_of, place_in, two_of, watch_at, windows_about}
+use Rattle.slack_rows.proofs.Alike.{alike_broken, alike_none, alike_told, starred_break, starred_broken, starred_free}
 use Rattle.slack_rows.proofs.Checkers.{region_ends}
 use Rattle.slack_rows.proofs.Regions.{IsCovered, covered}
 use Rattle.slack_rows.proofs.Watched.{every, in_some_slot, some_gap, some_tick}
@@ -275,18 +276,52 @@ module _ (at : Window → Told) (p : ℕ) (watch : Watch) where
       by [] met = absurd (met refl)
       by (w ∷ windows) met = refl
 
--- whatever is known of ways
-pub same_ways : (at : Window → Told) (p : ℕ) (watch : Watch) (way other : Option ℤ) → all_events p watch.changes ≡ false →
-    told_by at way p watch ≡ told_by at other p watch
-same_ways at p watch way other all =
-    ap (λ (a : Bool). told_cases (some_event p watch.changes && is_met watch.windows watch.never) a watch.never way (least (map at watch.windows))) all
-    ∙ by (some_event p watch.changes && is_met watch.windows watch.never) watch.never
-    ∙ sym (ap (λ (a : Bool). told_cases (some_event p watch.changes && is_met watch.windows watch.never) a watch.never other (least (map at watch.windows))) all)
+  -- changes may always come, about some window
+  pub told_starred : (way : Option ℤ) → some_event p watch.changes ≡ true → all_events p watch.changes ≡ true → watch.never ≡ false →
+      is_met watch.windows false ≡ true → told_by at way p watch ≡ told_alone (by_way way)
+  told_starred way some all never met =
+      (λ i. told_cases (some i && is_met watch.windows (never i)) (all i) (never i) way (least (map at watch.windows)))
+      ∙ ap (λ (m : Bool). told_cases m true false way (least (map at watch.windows))) met
+
+pub way_starred : (way : Option ℤ) → is_starred (by_way way) ≡ true
+way_starred None = refl
+way_starred (Some n) = refl
+
+-- whatever is known of ways, where they have no say
+pub same_ways : (at : Window → Told) (p : ℕ) (watch : Watch) (way other : Option ℤ) →
+    (all_events p watch.changes && is_met watch.windows false) ≡ false → told_by at way p watch ≡ told_by at other p watch
+same_ways at p watch way other exact = by (some_event p watch.changes) (all_events p watch.changes) watch.windows watch.never exact
   where
-    by : (m n : Bool) → told_cases m false n way (least (map at watch.windows)) ≡ told_cases m false n other (least (map at watch.windows))
-    by true true = refl
-    by true false = refl
-    by false n = refl
+    by : (some all : Bool) (windows : List Window) (never : Bool) → (all && is_met windows false) ≡ false →
+        told_cases (some && is_met windows never) all never way (least (map at windows))
+        ≡ told_cases (some && is_met windows never) all never other (least (map at windows))
+    by false all windows never exact = refl
+    by true all [] true exact = refl
+    by true all [] false exact = refl
+    by true all (w ∷ windows) true exact = refl
+    by true true (w ∷ windows) false exact = absurd (cc)
+    by true false (w ∷ windows) false exact = refl
+
+-- Whatever is known of ways: whether something can break it, and whether it is broken.
+pub alike_ways : (at : Window → Told) (p : ℕ) (watch : Watch) (way other : Option ℤ) →
+    (is_free (told_by at way p watch).slack ≡ is_free (told_by at other p watch).slack)
+    × (is_broken (told_by at way p watch).slack ≡ is_broken (told_by at other p watch).slack)
+alike_ways at p watch way other = by (some_event p watch.changes) (all_events p watch.changes) watch.windows watch.never
+  where
+    by : (some all : Bool) (windows : List Window) (never : Bool) →
+        (is_free (told_cases (some && is_met windows never) all never way (least (map at windows))).slack
+        ≡ is_free (told_cases (some && is_met windows never) all never other (least (map at windows))).slack)
+        × (is_broken (told_cases (some && is_met windows never) all never way (least (map at windows))).slack
+        ≡ is_broken (told_cases (some && is_met windows never) all never other (least (map at windows))).slack)
+    by false all windows never = (refl, refl)
+    by true all [] true = (refl, refl)
+    by true all [] false = (refl, refl)
+    by true all (w ∷ windows) true = (refl, refl)
+    by true true (w ∷ windows) false = (
+      starred_free (by_way way) (way_starred way) ∙ sym (starred_free (by_way other) (way_starred other)),
+      starred_broken (by_way way) (way_starred way) ∙ sym (starred_broken (by_way other) (way_starred other)),
+    )
+    by true false (w ∷ windows) false = (refl, refl)
 
 -- ---- in the program's words
 
@@ -296,46 +331,117 @@ pub tells_free : (p pin : ℕ) (d : Direction) (told : Told) (found : Option Fou
 tells_free p pin d told found is none =
     subst (λ (o : Option Found). Tells p o (told_of pin d told)) (sym none) (ap (λ (t : Told). t.slack) is)
 
-or_parts : (a b : Bool) → (a || b) ≡ false → (a ≡ false) × (b ≡ false)
+pub or_parts : (a b : Bool) → (a || b) ≡ false → (a ≡ false) × (b ≡ false)
 or_parts true b is = absurd (cc)
 or_parts false b is = (refl, is)
 
+no_window : (windows : List Window) → is_met windows false ≡ false → windows ≡ []
+no_window [] none = refl
+no_window (w ∷ windows) none = absurd (cc)
+
+-- about some edge
+pub met_edges : {A : Type 0} (f : A → Window) (edges : List A) → not (length edges == 0) ≡ is_met (map f edges) false
+met_edges f [] = refl
+met_edges f (e ∷ edges) = ap not (ne_eqb (suc (length edges)) 0 (λ same. absurd (omega (arith, same))))
+
 module _ (p : ℕ) (launches : Launches) (two : Window → Region → Bool) (pin : ℕ) (d : Direction) (watch : Watch) (found : Slacks) where
+  abbrev before : Window → Told
+  before = before_window p watch.changes launches
+
+  abbrev after : Window → Told
+  after = after_window p watch.changes launches
+
   -- of a watch whose windows these are
-  pub tell_watch : (windows : List Window) → windows ≡ watch.windows → some_event p watch.changes ≡ true → watch.never ≡ false → found.level ≡ None →
-      (all_events p watch.changes ≡ false → TellWindows p watch.changes launches two pin d windows found) →
-      TellWatch p launches (is_by_arrivals p two watch) pin d watch found
-  tell_watch windows are some never level tells =
-      record {
-        level = level;
-        before = λ exact.
-            let parts = or_parts (all_events p watch.changes) (list_any (two_in p watch.changes two) watch.windows) exact in
-            let told = tells parts.0 in
-            subst (Tells p found.before)
-            (ap (told_of pin d) (ap (λ (ws : List Window). least (map (before_window p watch.changes launches) ws)) are
-            ∙ sym (told_windows (before_window p watch.changes launches) p watch launches.last_way some parts.0 never)))
-            (told.before (ap (list_any (two_in p watch.changes two)) are ∙ parts.1));
-        after = λ exact.
-            let parts = or_parts (all_events p watch.changes) (list_any (two_in p watch.changes two) watch.windows) exact in
-            let told = tells parts.0 in
-            subst (Tells p found.after)
-            (ap (told_of pin d) (ap (λ (ws : List Window). least (map (after_window p watch.changes launches) ws)) are
-            ∙ sym (told_windows (after_window p watch.changes launches) p watch launches.first_way some parts.0 never)))
-            (told.after (ap (list_any (two_in p watch.changes two)) are ∙ parts.1));
-      }
+  module _ (windows : List Window) (are : windows ≡ watch.windows) (some : some_event p watch.changes ≡ true) (never : watch.never ≡ false)
+      (level : found.level ≡ None)
+      (tells : all_events p watch.changes ≡ false → TellWindows p watch.changes launches two pin d windows found)
+      (ways : all_events p watch.changes ≡ true → AreOfWays (is_met watch.windows false) found) where
+    windows_before : all_events p watch.changes ≡ false → told_before p launches watch ≡ least (map before windows)
+    windows_before all = told_windows before p watch launches.last_way some all never ∙ ap (λ (ws : List Window). least (map before ws)) (sym are)
+
+    windows_after : all_events p watch.changes ≡ false → told_after p launches watch ≡ least (map after windows)
+    windows_after all = told_windows after p watch launches.first_way some all never ∙ ap (λ (ws : List Window). least (map after ws)) (sym are)
+
+    exact_parts : is_by_arrivals p two watch ≡ false →
+        ((all_events p watch.changes && is_met watch.windows false) ≡ false) × (list_any (two_in p watch.changes two) watch.windows ≡ false)
+    exact_parts exact = or_parts (all_events p watch.changes && is_met watch.windows false) (list_any (two_in p watch.changes two) watch.windows) exact
+
+    unmet : all_events p watch.changes ≡ true → is_by_arrivals p two watch ≡ false → is_met watch.windows false ≡ false
+    unmet all exact = ap (λ (b : Bool). b && is_met watch.windows false) (sym all) ∙ (exact_parts exact).0
+
+    exact_before : (b : Bool) → all_events p watch.changes ≡ b → is_by_arrivals p two watch ≡ false →
+        Tells p found.before (told_of pin d (told_before p launches watch))
+    exact_before false all exact =
+        let told = tells all in
+        subst (Tells p found.before) (ap (told_of pin d) (sym (windows_before all)))
+        (told.before (ap (list_any (two_in p watch.changes two)) are ∙ (exact_parts exact).1))
+    exact_before true all exact =
+        let none = subst (λ (b : Bool). AreOfWays b found) (unmet all exact) (ways all) in
+        tells_free p pin d (told_before p launches watch) found.before
+        (told_unmet before p watch launches.last_way (no_window watch.windows (unmet all exact)) never) none.0
+
+    exact_after : (b : Bool) → all_events p watch.changes ≡ b → is_by_arrivals p two watch ≡ false →
+        Tells p found.after (told_of pin d (told_after p launches watch))
+    exact_after false all exact =
+        let told = tells all in
+        subst (Tells p found.after) (ap (told_of pin d) (sym (windows_after all)))
+        (told.after (ap (list_any (two_in p watch.changes two)) are ∙ (exact_parts exact).1))
+    exact_after true all exact =
+        let none = subst (λ (b : Bool). AreOfWays b found) (unmet all exact) (ways all) in
+        tells_free p pin d (told_after p launches watch) found.after
+        (told_unmet after p watch launches.first_way (no_window watch.windows (unmet all exact)) never) none.1
+
+    alike_always : all_events p watch.changes ≡ true → (b : Bool) → is_met watch.windows false ≡ b →
+        AreAlike found (told_before p launches watch).slack (told_after p launches watch).slack
+    alike_always all false none =
+        let free = subst (λ (b : Bool). AreOfWays b found) none (ways all) in
+        alike_none found (told_before p launches watch).slack (told_after p launches watch).slack free.0 free.1
+        (ap (λ (t : Told). t.slack) (told_unmet before p watch launches.last_way (no_window watch.windows none) never))
+        (ap (λ (t : Told). t.slack) (told_unmet after p watch launches.first_way (no_window watch.windows none) never))
+    alike_always all true met =
+        let starred = subst (λ (b : Bool). AreOfWays b found) met (ways all) in
+        alike_broken found (told_before p launches watch).slack (told_after p launches watch).slack
+        (starred_break (slack_told found.before) (slack_told found.after) starred.0 starred.1)
+        (starred_break (told_before p launches watch).slack (told_after p launches watch).slack
+        (ap (λ (t : Told). is_starred t.slack) (told_starred before p watch launches.last_way some all never met) ∙ way_starred launches.last_way)
+        (ap (λ (t : Told). is_starred t.slack) (told_starred after p watch launches.first_way some all never met) ∙ way_starred launches.first_way))
+
+    alike : (b : Bool) → all_events p watch.changes ≡ b →
+        AreAlike found (told_before p launches watch).slack (told_after p launches watch).slack
+    alike false all =
+        let told = tells all in
+        subst (λ (t : Told). AreAlike found t.slack (told_after p launches watch).slack) (sym (windows_before all))
+        (subst (λ (t : Told). AreAlike found (least (map before windows)).slack t.slack) (sym (windows_after all)) told.alike)
+    alike true all = alike_always all (is_met watch.windows false) refl
+
+    pub tell_watch : TellWatch p launches (is_by_arrivals p two watch) pin d watch found
+    tell_watch =
+        record {
+          level = level;
+          before = exact_before (all_events p watch.changes) refl;
+          after = exact_after (all_events p watch.changes) refl;
+          alike = alike (all_events p watch.changes) refl;
+        }
 
   -- of one that is never to change
-  pub tell_never : (told : Found) → some_event p watch.changes ≡ true → watch.never ≡ true →
-      told_of pin d (told_alone NoNumber) ≡ told_by_found p told →
-      found ≡ record { level = None; before = Some told; after = Some told } →
-      TellWatch p launches (is_by_arrivals p two watch) pin d watch found
-  tell_never told some never told_is is =
-      record {
-        level = ap (λ (s : Slacks). s.level) is;
-        before = λ exact.
-            subst (λ (o : Option Found). Tells p o (told_of pin d (told_before p launches watch))) (sym (ap (λ (s : Slacks). s.before) is))
-            (ap (told_of pin d) (told_without (before_window p watch.changes launches) p watch launches.last_way some never) ∙ told_is);
-        after = λ exact.
-            subst (λ (o : Option Found). Tells p o (told_of pin d (told_after p launches watch))) (sym (ap (λ (s : Slacks). s.after) is))
-            (ap (told_of pin d) (told_without (after_window p watch.changes launches) p watch launches.first_way some never) ∙ told_is);
-      }
+  module _ (told : Found) (some : some_event p watch.changes ≡ true) (never : watch.never ≡ true) (told_is : IsTold p told (told_of pin d (told_alone NoNumber)))
+      (is : found ≡ record { level = None; before = Some told; after = Some told }) where
+    never_before : Tells p found.before (told_of pin d (told_before p launches watch))
+    never_before =
+        subst (λ (o : Option Found). Tells p o (told_of pin d (told_before p launches watch))) (sym (ap (λ (s : Slacks). s.before) is))
+        (subst (IsTold p told) (sym (ap (told_of pin d) (told_without before p watch launches.last_way some never))) told_is)
+
+    never_after : Tells p found.after (told_of pin d (told_after p launches watch))
+    never_after =
+        subst (λ (o : Option Found). Tells p o (told_of pin d (told_after p launches watch))) (sym (ap (λ (s : Slacks). s.after) is))
+        (subst (IsTold p told) (sym (ap (told_of pin d) (told_without after p watch launches.first_way some never))) told_is)
+
+    pub tell_never : TellWatch p launches (is_by_arrivals p two watch) pin d watch found
+    tell_never =
+        record {
+          level = ap (λ (s : Slacks). s.level) is;
+          before = λ exact. never_before;
+          after = λ exact. never_after;
+          alike = alike_told p found (told_of pin d (told_before p launches watch)) (told_of pin d (told_after p launches watch))
+              never_before never_after;
+        }

@@ -88,7 +88,7 @@ module _ (p : ℕ) (ev : Events) (cyclic : IsCyclic p ev) (long : 2 ≤ p) (laun
       let parts = met_parts (region_to p ev l) met in
       shared (region_to p ev l).first l parts.1 parts.0 some (region_to_ordered p ev cyclic long l) (region_to_each p ev cyclic long l (last_in l is))
 
-  met_touches : (ts : List ℕ) (r : Region) (rest : List Region) → w.opens < w.closes →
+  pub met_touches : (ts : List ℕ) (r : Region) (rest : List Region) → w.opens < w.closes →
       filter (meets w) (map (region_from p ev) (filter (is_first p ev) ts)) ≡ r ∷ rest → IsTouched ev w
   met_touches [] r rest some is = absurd (cc)
   met_touches (t ∷ ts) r rest some is = by (is_first p ev t) refl (meets w (region_from p ev t)) refl is (λ more. met_touches ts r rest some more)
@@ -126,7 +126,7 @@ module _ (p : ℕ) (ev : Events) (cyclic : IsCyclic p ev) (long : 2 ≤ p) (laun
 
   -- ---- where a slack is broken a change is in the window
 
-  last_touches : (o : Option ℕ) → w.opens < w.closes → last_before p ev (launches.side w) w ≡ o → is_broken (before_at w o).slack ≡ true → IsTouched ev w
+  last_touches : (o : Option ℕ) → w.opens < w.closes → last_before p ev (launches.side w) w ≡ o → is_broken (before_at p ev w o).slack ≡ true → IsTouched ev w
   last_touches None some is broken = absurd (cc)
   last_touches (Some u) some is broken =
       let less = not_below_zero w.opens u broken in
@@ -138,7 +138,7 @@ module _ (p : ℕ) (ev : Events) (cyclic : IsCyclic p ev) (long : 2 ≤ p) (laun
             (and_parts (meets w (region_to p ev u)) (is_late (side_of (launches.side w) w (region_to p ev u))) late).0
       ]
 
-  first_touches : (o : Option ℕ) → w.opens < w.closes → first_after p ev (launches.side w) w ≡ o → is_broken (after_at w o).slack ≡ true → IsTouched ev w
+  first_touches : (o : Option ℕ) → w.opens < w.closes → first_after p ev (launches.side w) w ≡ o → is_broken (after_at p ev w o).slack ≡ true → IsTouched ev w
   first_touches None some is broken = absurd (cc)
   first_touches (Some v) some is broken =
       let less = not_below_zero v (w.closes + 1) broken in
@@ -159,7 +159,7 @@ module _ (p : ℕ) (ev : Events) (cyclic : IsCyclic p ev) (long : 2 ≤ p) (laun
   before_touches some broken = by (two_launches launches w (met p ev w)) refl broken
     where
       by : (o : Option (ℕ × ℕ)) → two_launches launches w (met p ev w) ≡ o →
-          is_broken (before_by w o (last_before p ev (launches.side w) w)).slack ≡ true → IsTouched ev w
+          is_broken (before_by p ev w o (last_before p ev (launches.side w) w)).slack ≡ true → IsTouched ev w
       by None is broken = last_touches (last_before p ev (launches.side w) w) some refl broken
       by (Some ticks) is broken = two_touch ticks some is
 
@@ -167,23 +167,23 @@ module _ (p : ℕ) (ev : Events) (cyclic : IsCyclic p ev) (long : 2 ≤ p) (laun
   after_touches some broken = by (two_launches launches w (met p ev w)) refl broken
     where
       by : (o : Option (ℕ × ℕ)) → two_launches launches w (met p ev w) ≡ o →
-          is_broken (after_by w o (first_after p ev (launches.side w) w)).slack ≡ true → IsTouched ev w
+          is_broken (after_by p ev w o (first_after p ev (launches.side w) w)).slack ≡ true → IsTouched ev w
       by None is broken = first_touches (first_after p ev (launches.side w) w) some refl broken
       by (Some ticks) is broken = two_touch ticks some is
 
   -- ---- where a change is in the window one of the slacks is broken
 
-  abbrev AreBroken : Option ℕ → Option ℕ → Type 0
-  AreBroken last first = (is_broken (before_at w last).slack ≡ true) ⊎ (is_broken (after_at w first).slack ≡ true)
+  abbrev pub AreBroken : Option ℕ → Option ℕ → Type 0
+  AreBroken last first = (is_broken (before_at p ev w last).slack ≡ true) ⊎ (is_broken (after_at p ev w first).slack ≡ true)
 
   module _ (z : ℕ) (none : ev z ≡ false) (below : z < p) (placed : IsPlaced p w) where
-    broken_after : (u : ℕ) → w.opens < u → (o : Option ℕ) → o ≡ Some u → is_broken (before_at w o).slack ≡ true
-    broken_after u more o is = ap (λ (o : Option ℕ). is_broken (before_at w o).slack) is ∙ below_zero w.opens u more
+    broken_after : (u : ℕ) → w.opens < u → (o : Option ℕ) → o ≡ Some u → is_broken (before_at p ev w o).slack ≡ true
+    broken_after u more o is = ap (λ (o : Option ℕ). is_broken (before_at p ev w o).slack) is ∙ below_zero w.opens u more
 
-    broken_before : (v : ℕ) → v ≤ w.closes → (o : Option ℕ) → o ≡ Some v → is_broken (after_at w o).slack ≡ true
-    broken_before v less o is = ap (λ (o : Option ℕ). is_broken (after_at w o).slack) is ∙ below_zero v (w.closes + 1) (omega (arith, less))
+    broken_before : (v : ℕ) → v ≤ w.closes → (o : Option ℕ) → o ≡ Some v → is_broken (after_at p ev w o).slack ≡ true
+    broken_before v less o is = ap (λ (o : Option ℕ). is_broken (after_at p ev w o).slack) is ∙ below_zero v (w.closes + 1) (omega (arith, less))
 
-    regions_break : IsTouched ev w → AreBroken (last_before p ev (launches.side w) w) (first_after p ev (launches.side w) w)
+    pub regions_break : IsTouched ev w → AreBroken (last_before p ev (launches.side w) w) (first_after p ev (launches.side w) w)
     regions_break touched =
         let start = placed.after_start in
         let after = touched.after in
@@ -229,8 +229,8 @@ module _ (p : ℕ) (ev : Events) (cyclic : IsCyclic p ev) (long : 2 ≤ p) (laun
     touched_breaks touched = by (two_launches launches w (met p ev w)) refl
       where
         by : (o : Option (ℕ × ℕ)) → two_launches launches w (met p ev w) ≡ o →
-            (is_broken (before_by w o (last_before p ev (launches.side w) w)).slack ≡ true)
-            ⊎ (is_broken (after_by w o (first_after p ev (launches.side w) w)).slack ≡ true)
+            (is_broken (before_by p ev w o (last_before p ev (launches.side w) w)).slack ≡ true)
+            ⊎ (is_broken (after_by p ev w o (first_after p ev (launches.side w) w)).slack ≡ true)
         by None is = regions_break touched
         by (Some ticks) is =
             let two = two_are (met p ev w) ticks is in

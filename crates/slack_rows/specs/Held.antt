@@ -36,7 +36,7 @@ use Rattle.slack_rows.specs.declared.slack.Told.{Told as Found}
 use Rattle.slack_rows.specs.declared.slack.Slacks.{Slacks}
 use Rattle.slack_rows.specs.declared.window.Window.{Window as Ticks}
 use Rattle.slack_rows.specs.Window.{Side, Either, Window, about, counts_after, counts_before, meets, met}
-use Rattle.slack_rows.specs.Slack.{Launches, Watch, after_window, before_window, is_open, least, no_launches, told_after, told_before, told_of, two_in}
+use Rattle.slack_rows.specs.Slack.{Launches, Slack, Told, Watch, after_window, is_broken, is_free, before_window, is_open, least, no_launches, told_after, told_before, told_of, two_in}
 use Rattle.slack_rows.specs.Limit.{beside_by_arrivals, in_windows, is_beside, told_never, told_pin}
 use Rattle.slack_rows.specs.declared.parameter.Word.TheVariants.{Gate, Before as GateBefore, After as GateAfter}
 use Rattle.slack_rows.specs.declared.slack.Reason.{Reason}
@@ -47,7 +47,7 @@ use Rattle.flat_circuit.specs.declared.instance.Instance.{Instance}
 use Rattle.point_check.specs.Window.{Folds}
 use Rattle.slack_rows.specs.Laws.{IsPlaced}
 use Rattle.slack_rows.specs.Launched.{are_two, side_by, two_by}
-use Rattle.slack_rows.specs.Views.{Tells, ahead_of, counts_first, counts_last, is_two, meets_window, window_about, window_in}
+use Rattle.slack_rows.specs.Views.{Tells, ahead_of, counts_first, counts_last, is_starred, is_two, meets_window, region_in, slack_told, window_about, window_in}
 
 -- the ideal edge that a step comes from which the pin shows at a tick
 abbrev pub edge_at_pin : Circuit → Waves → Corner → Pin → Direction → ℕ → Option Edge
@@ -79,10 +79,6 @@ abbrev pub launches_of : Circuit → Waves → Option Held → Launches
 launches_of c ws None = no_launches
 launches_of c ws (Some held) =
     record { side = held_side c ws held; two = held_two c ws held; last_way = None; first_way = None }
-
--- a region as the definitions count its ticks
-abbrev pub region_in : ℕ → Ticked → Region
-region_in p r = record { first = ahead_of p r.first; last = ahead_of p r.last }
 
 -- an edge as the program counts its tick, so many ticks before
 abbrev pub told_back : ℕ → Edge → ℕ × ℤ
@@ -207,6 +203,33 @@ pub record AreChanges (p : ℕ) (ev : Events) (changes : List Ticked) : Type 0 w
   pub some : all_events p ev ≡ false
   pub are : changes ≡ map ticks_of_region (regions p ev)
 
+-- What is told of two sides, as far as arrivals have no say in it: of each whether something can break it, and whether
+-- one of both is broken.
+pub record AreAlike (found : Slacks) (one other : Slack) : Type 0 where
+  pub before : is_free (slack_told found.before) ≡ is_free one
+  pub after : is_free (slack_told found.after) ≡ is_free other
+  pub broken : (is_broken (slack_told found.before) || is_broken (slack_told found.after)) ≡ (is_broken one || is_broken other)
+
+-- Something can break each side, and one of both is broken.
+pub record BreakOne (one other : Slack) : Type 0 where
+  pub before : is_free one ≡ false
+  pub after : is_free other ≡ false
+  pub broken : (is_broken one || is_broken other) ≡ true
+
+abbrev pub IsBrokenByTwo : Slacks → Type 0
+IsBrokenByTwo found = BreakOne (slack_told found.before) (slack_told found.after)
+
+-- Where data may change in every slot: nothing if there is no window, or else no number of the waves on either side.
+abbrev pub AreOfWays : Bool → Slacks → Type 0
+AreOfWays false found = (found.before ≡ None) × (found.after ≡ None)
+AreOfWays true found = (is_starred (slack_told found.before) ≡ true) × (is_starred (slack_told found.after) ≡ true)
+
+-- The slacks of two sides, exactly but for an exception.
+pub record TellSides (p : ℕ) (except : Bool) (one other : Told) (found : Slacks) : Type 0 where
+  pub before : except ≡ false → Tells p found.before one
+  pub after : except ≡ false → Tells p found.after other
+  pub alike : AreAlike found one.slack other.slack
+
 -- The slacks about a window, exactly but where two launches may make the only region that meets it.
 pub record TellWindow (p : ℕ) (ev : Events) (launches : Launches) (two : Window → Region → Bool) (pin : ℕ) (direction : Direction)
     (w : Window) (found : Slacks) : Type 0 where
@@ -214,6 +237,7 @@ pub record TellWindow (p : ℕ) (ev : Events) (launches : Launches) (two : Windo
       Tells p found.before (told_of pin direction (before_window p ev launches w))
   pub after : two_in p ev two w ≡ false →
       Tells p found.after (told_of pin direction (after_window p ev launches w))
+  pub alike : AreAlike found (before_window p ev launches w).slack (after_window p ev launches w).slack
 
 -- The least slacks about windows, exactly but where two launches may make the only region that meets one.
 pub record TellWindows (p : ℕ) (ev : Events) (launches : Launches) (two : Window → Region → Bool) (pin : ℕ) (direction : Direction)
@@ -223,6 +247,7 @@ pub record TellWindows (p : ℕ) (ev : Events) (launches : Launches) (two : Wind
       Tells p found.before (told_of pin direction (least (map (before_window p ev launches) windows)))
   pub after : list_any (two_in p ev two) windows ≡ false →
       Tells p found.after (told_of pin direction (least (map (after_window p ev launches) windows)))
+  pub alike : AreAlike found (least (map (before_window p ev launches) windows)).slack (least (map (after_window p ev launches) windows)).slack
 
 -- the windows about edges
 abbrev pub windows_about : ℕ → ℕ × ℕ → List Ticked → List Window
@@ -246,6 +271,7 @@ pub record TellWatch (p : ℕ) (launches : Launches) (except : Bool) (pin : ℕ)
   pub level : found.level ≡ None
   pub before : except ≡ false → Tells p found.before (told_of pin direction (told_before p launches watch))
   pub after : except ≡ false → Tells p found.after (told_of pin direction (told_after p launches watch))
+  pub alike : AreAlike found (told_before p launches watch).slack (told_after p launches watch).slack
 
 -- The same of a change that is never to come, and of those in windows: exactly but where two launches may make the only
 -- region that meets one.
@@ -256,6 +282,7 @@ pub record TellParts (p : ℕ) (launches : Launches) (two : Window → Region �
       Tells p found.before (told_of pin direction (told_before p launches (in_windows watch)))
   pub after : list_any (two_in p watch.changes two) watch.windows ≡ false →
       Tells p found.after (told_of pin direction (told_after p launches (in_windows watch)))
+  pub alike : AreAlike found (told_before p launches (in_windows watch)).slack (told_after p launches (in_windows watch)).slack
 
 -- changes that are not to come at these ticks, nor in the tick beside them
 abbrev pub watch_at : ℕ → Events → Events → Watch
@@ -273,6 +300,7 @@ pub record TellBeside (c : Circuit) (ws : Waves) (j : Instance) (marked i : ℕ)
       Tells (period c.header) found.before (told_of i Change (told_pin c ws j GateBefore marked i))
   pub after : is_beside j marked i ≡ true → beside_by_arrivals c ws j marked i ≡ false →
       Tells (period c.header) found.after (told_of i Change (told_pin c ws j GateAfter marked i))
+  pub alike : is_beside j marked i ≡ true → AreAlike found (told_pin c ws j GateBefore marked i).slack (told_pin c ws j GateAfter marked i).slack
   pub none : is_beside j marked i ≡ false → (found.level ≡ None) × (found.before ≡ None) × (found.after ≡ None)
 
 -- What is told of a net's steps of a direction, by what it may do and what its assertion permits.
@@ -291,14 +319,18 @@ abbrev pub is_step_outside : Value → Value → Bool
 is_step_outside v wide =
     (has v false true && not (has wide false true)) || (has v true false && not (has wide true false))
 
--- A level in the first slot that is not permitted, where no step is outside: which level it is does not matter.
-abbrev pub IsLevelIn : Option Reason → Option ℕ → Type 0
-IsLevelIn found None = found ≡ None
-IsLevelIn found (Some slot) = (high : Bool) × (found ≡ Some (Level high slot))
+-- 1 is the level that the other value lacks
+abbrev pub is_high_outside : Value → Value → Bool
+is_high_outside v wide = has v true true && not (has wide true true)
 
-abbrev pub IsLevelTold : Option Reason → Bool → Option ℕ → Type 0
-IsLevelTold found true excess = found ≡ None
-IsLevelTold found false excess = IsLevelIn found excess
+-- A level in the first slot that is not permitted, where no step is outside: 1, if that is not.
+abbrev pub IsLevelIn : (ℕ → Bool) → Option Reason → Option ℕ → Type 0
+IsLevelIn high found None = found ≡ None
+IsLevelIn high found (Some slot) = found ≡ Some (Level (high slot) slot)
+
+abbrev pub IsLevelTold : (ℕ → Bool) → Option Reason → Bool → Option ℕ → Type 0
+IsLevelTold high found true excess = found ≡ None
+IsLevelTold high found false excess = IsLevelIn high found excess
 
 -- those of two launches, or where there are none those of regions
 abbrev pub slacks_of_two : Option Slacks → Slacks → Slacks

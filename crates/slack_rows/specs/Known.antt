@@ -1,5 +1,5 @@
 -- What is known of all limits over some cases.
-use Rattle.std.specs.Prelude.{◌≡◌, ℕ, zero, suc, ◌+◌, ◌-◌, ◌<◌, ◌≤◌, ◌⊎◌, Bool, true, false, not, ◌&&◌, is_none, List, [], ◌∷◌, ◌++◌, length, map, slice_get, slice_index_or, nat_le, if◌then◌else◌, Option, Some, None}
+use Rattle.std.specs.Prelude.{◌≡◌, ℕ, zero, suc, ◌+◌, ◌-◌, ◌<◌, ◌≤◌, ◌⊎◌, Bool, true, false, not, ◌&&◌, ◌||◌, ◌==◌, is_none, List, [], ◌∷◌, ◌++◌, length, map, slice_get, slice_index_or, nat_le, if◌then◌else◌, Option, Some, None}
 use Rattle.std.specs.List.{All, AllByRecursion, list_all, list_any}
 use Rattle.scald_base.specs.Time.{period}
 use Rattle.flat_circuit.specs.Circuit.{Circuit}
@@ -11,10 +11,10 @@ use Rattle.slack_rows.specs.declared.parameter.Word.TheVariants.{Setup, Hold, Hi
 use Rattle.slack_rows.specs.declared.rows.Least.{Least}
 use Rattle.slack_rows.specs.declared.slack.Slacks.{Slacks}
 use Rattle.slack_rows.specs.declared.slack.Told.{Told as Found}
-use Rattle.slack_rows.specs.Slack.{Free, is_broken, is_less}
+use Rattle.slack_rows.specs.Slack.{Free, Told, is_broken, is_free, is_less}
 use Rattle.slack_rows.specs.Limit.{Case, by_arrivals, least_told, told_in, worst}
-use Rattle.slack_rows.specs.Rows.{all_limits, limits_of, subjects}
-use Rattle.slack_rows.specs.Views.{Tells, slack_by, slack_for, told_by_found}
+use Rattle.slack_rows.specs.Rows.{all_limits, first_with, limits_of, partner, subjects}
+use Rattle.slack_rows.specs.Views.{IsTold, Tells, slack_by, slack_for, slack_told}
 
 -- ---- sets of cases
 
@@ -57,20 +57,60 @@ is_sure c cases subject =
 abbrev pub are_sure : Circuit → List Case → Bool
 are_sure c cases = list_all (is_sure c cases) (subjects c)
 
--- These are the slacks of the subject, if there is one, but where arrivals decide.
+-- Which side is broken arrivals may say of these, where two launches are at one edge.
+abbrev pub may_be_two : Limit → Bool
+may_be_two Setup = true
+may_be_two Hold = true
+may_be_two High = false
+may_be_two Low = false
+may_be_two Gate = false
+may_be_two GateBefore = true
+may_be_two GateAfter = true
+may_be_two Assert = false
+may_be_two StableFrom = false
+may_be_two StableTo = false
+
+-- of a limit and the one on the other side of the same edges one is broken exactly where one is told to be
+abbrev pub BreakAlike : (Limit → Told) → Slacks → Limit → Option Limit → Type 0
+BreakAlike told slacks word None = Unit {0}
+BreakAlike told slacks word (Some before) =
+    (is_broken (slack_told (slack_for slacks before)) || is_broken (slack_told (slack_for slacks word)))
+    ≡ (is_broken (told before).slack || is_broken (told word).slack)
+
+-- Whatever arrivals say: whether something can break a limit, and whether it is broken, of two sides together.
+pub record IsAlike (told : Limit → Told) (slacks : Slacks) (word : Limit) : Type 0 where
+  pub free : is_free (slack_told (slack_for slacks word)) ≡ is_free (told word).slack
+  pub alone : may_be_two word ≡ false → is_broken (slack_told (slack_for slacks word)) ≡ is_broken (told word).slack
+  pub both : BreakAlike told slacks word (partner word)
+
+-- the slacks of these limits, all of them exact but for an exception
+pub record TellLimits (p : ℕ) (except : Bool) (told : Limit → Told) (limits : List Limit) (slacks : Slacks) : Type 0 where
+  pub exact : except ≡ false → All (λ word. Tells p (slack_for slacks word) (told word)) limits
+  pub alike : All (IsAlike told slacks) limits
+
+-- these are the slacks of the subject, if there is one
 abbrev pub SlacksKnown : Circuit → Waves → Option Subject → Slacks → Type 0
 SlacksKnown c ws None slacks = Unit {0}
 SlacksKnown c ws (Some subject) slacks =
-    by_arrivals c ws subject ≡ false →
-    All (λ word. Tells (period c.header) (slack_for slacks word) (told_in c ws subject word))
-    (limits_of c subject)
+    TellLimits (period c.header) (by_arrivals c ws subject) (told_in c ws subject) (limits_of c subject) slacks
+
+-- what is told of a limit, and whether two are of one case
+abbrev pub told_least : Option Least → Option Found
+told_least None = None
+told_least (Some least) = Some least.told
+
+abbrev pub in_one_case : Option Least → Option Least → Bool
+in_one_case None after = false
+in_one_case (Some before) None = false
+in_one_case (Some before) (Some after) = before.case == after.case
 
 -- ---- the least slacks
 
 -- the least slack of a limit over these cases, and all cases that have it
 pub record IsLeast (c : Circuit) (cases : List Case) (sets : List (ℕ × ℕ)) (q : Parameter)
     (found : Least) : Type 0 where
-  pub told : least_told c cases q.subject q.word ≡ told_by_found (period c.header) found.told
+  pub told : IsTold (period c.header) found.told (least_told c cases q.subject q.word)
+  pub in_case : first_with c cases q.subject q.word ≡ found.case
   pub have_it : numbers_of (map (λ (case : Case). case.number) cases) (places_of sets found.cases)
       ≡ (worst c cases q.subject q.word).cases
   pub first : (rest : List ℕ) × (places_of sets found.cases ≡ found.case ∷ rest)
@@ -85,7 +125,25 @@ abbrev pub IsNumbered : List (ℕ × ℕ) → Option Least → Type 0
 IsNumbered sets None = Unit {0}
 IsNumbered sets (Some found) = found.cases ≤ length sets
 
--- of each limit of the circuit, but where arrivals may decide
+abbrev pub breaks : Option Least → Bool
+breaks None = false
+breaks (Some least) = is_broken (slack_by least.told.slack)
+
+-- the least so many places before one, if there is one
+abbrev pub least_at : List (Option Least) → ℕ → ℕ → Option Least
+least_at least place count =
+    if nat_le count place then slice_index_or least (place - count) None else None
+
+-- Of a limit and the one on the other side of the same edges, which stands before it, one is broken exactly where one is
+-- said to be.
+abbrev pub BreaksBoth : Circuit → List Case → List (Option Least) → ℕ → Parameter → Option Limit → Type 0
+BreaksBoth c cases least place q None = Unit {0}
+BreaksBoth c cases least place q (Some before) =
+    (breaks (least_at least place 1) || breaks (least_at least place 0))
+    ≡ (is_broken (least_told c cases q.subject before).slack || is_broken (least_told c cases q.subject q.word).slack)
+
+-- Of each limit of the circuit: all where arrivals do not decide, and always whether something can break it and whether
+-- it is broken, of two sides together.
 pub record AreKnown (c : Circuit) (cases : List Case) (limits : List Parameter)
     (least : List (Option Least)) (numbers : List ℕ) (sets : List (ℕ × ℕ)) : Type 0 where
   pub are_limits : limits ≡ all_limits c
@@ -96,6 +154,12 @@ pub record AreKnown (c : Circuit) (cases : List Case) (limits : List Parameter)
       IsNumbered sets found
   pub each : (i : ℕ) (q : Parameter) (found : Option Least) → slice_get limits i ≡ Some q →
       slice_get least i ≡ Some found → is_sure c cases q.subject ≡ true → IsKnown c cases sets q found
+  pub free : (i : ℕ) (q : Parameter) (found : Option Least) → slice_get limits i ≡ Some q →
+      slice_get least i ≡ Some found → is_none found ≡ is_free (least_told c cases q.subject q.word).slack
+  pub alone : (i : ℕ) (q : Parameter) (found : Option Least) → slice_get limits i ≡ Some q →
+      slice_get least i ≡ Some found → may_be_two q.word ≡ false →
+      breaks found ≡ is_broken (least_told c cases q.subject q.word).slack
+  pub both : (i : ℕ) (q : Parameter) → slice_get limits i ≡ Some q → BreaksBoth c cases least i q (partner q.word)
 
 -- ---- one case more
 
@@ -139,16 +203,7 @@ IsLowered sets (Some least) (Some told) case new found =
     IsLoweredBy (is_less (slack_by told.slack) (slack_by least.told.slack))
     (is_less (slack_by least.told.slack) (slack_by told.slack)) sets least told case new found
 
--- ---- what is broken
-
-abbrev pub breaks : Option Least → Bool
-breaks None = false
-breaks (Some least) = is_broken (slack_by least.told.slack)
-
--- the least so many places before one, if there is one
-abbrev pub least_at : List (Option Least) → ℕ → ℕ → Option Least
-least_at least place count =
-    if nat_le count place then slice_index_or least (place - count) None else None
+-- ---- what nothing can break
 
 -- nothing can break a limit at a place, nor the mark or the assertion itself
 abbrev pub free_by : Limit → List (Option Least) → ℕ → Bool

@@ -27,7 +27,7 @@ use Rattle.critical_paths.specs.declared.direction.Direction.{Direction}
 use Rattle.critical_paths.specs.declared.direction.Direction.TheVariants.{Rise, Fall, Change}
 use Rattle.critical_paths.specs.Event.{Events, events, moves}
 use Rattle.critical_paths.specs.Region.{Region, all_events, first_from, some_event}
-use Rattle.slack_rows.specs.Slack.{Slack, Free, Ticks, Way, NoNumber, Launches, Told, Watch, AtLevel, is_less, least, no_launches, told_after, told_alone, told_at, told_before, told_of, two_in}
+use Rattle.slack_rows.specs.Slack.{Slack, Free, Ticks, Way, NoNumber, Launches, Told, Watch, AtLevel, is_less, is_met, least, no_launches, told_after, told_alone, told_at, told_before, told_of, two_in}
 use Rattle.slack_rows.specs.declared.parameter.Word.{Word as Limit}
 use Rattle.slack_rows.specs.declared.parameter.Word.TheVariants.{Setup, Hold, High, Low, Gate, Before as GateBefore, After as GateAfter, Assert, From as StableFrom, To as StableTo}
 use Rattle.slack_rows.specs.declared.parameter.Subject.{Subject}
@@ -207,11 +207,11 @@ told_in c ws (OfNet i) limit = told_held c ws i limit (slice_get c.nets i)
 
 -- ---- by arrivals
 
--- The changes of a watch may come in every slot, or two launches may make the only region that meets one of its windows:
--- then what is told goes by arrivals.
+-- There is a window, and the changes of a watch may come in every slot; or two launches may make the only region that
+-- meets one of its windows: then what is told goes by arrivals.
 abbrev pub is_by_arrivals : ℕ → (Window → Region → Bool) → Watch → Bool
 is_by_arrivals p two watch =
-    all_events p watch.changes || list_any (two_in p watch.changes two) watch.windows
+    (all_events p watch.changes && is_met watch.windows false) || list_any (two_in p watch.changes two) watch.windows
 
 abbrev pub check_by_arrivals : Circuit → Waves → Instance → Option Check → Bool
 check_by_arrivals c ws j None = false

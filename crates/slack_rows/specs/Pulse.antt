@@ -41,6 +41,11 @@ abbrev pub left_of : Split → Bool → ℕ → ℤ
 left_of s true width = pos (width + s.fall.min) -ℤ pos s.rise.max
 left_of s false width = pos (width + s.rise.min) -ℤ pos s.fall.max
 
+-- how late it may begin
+abbrev pub latest_begin : Split → Bool → ℕ
+latest_begin s true = s.rise.max
+latest_begin s false = s.fall.max
+
 abbrev pub left_if : Split → Bool → Option Pulse → Option ℤ
 left_if s level None = None
 left_if s level (Some pulse) = if int_le (left_of s level pulse.1) (pos 0) then Some (left_of s level pulse.1) else None

@@ -1,29 +1,25 @@
 -- The rows of the table, worst first.
-use Rattle.std.specs.Prelude.{ℕ, ◌+◌, ◌==◌, Bool, true, false, not, ◌&&◌, ◌||◌, List, [], ◌∷◌, ◌++◌, filter, length, map, slice_get, if◌then◌else◌, Option, Some, None}
+use Rattle.std.specs.Prelude.{ℕ, ◌+◌, ◌==◌, nat_le, Bool, true, false, not, ◌&&◌, ◌||◌, List, [], ◌∷◌, ◌++◌, filter, length, map, slice_get, if◌then◌else◌, Option, Some, None}
 use Rattle.std.specs.List.{count_by, flat_map, list_any, range_with_len}
-use Rattle.step_values.specs.Cell.{values}
-use Rattle.skew_algebra.specs.Wave.{fold}
 use Rattle.element_kinds.specs.declared.form.Check.{Check}
 use Rattle.element_kinds.specs.declared.form.Check.TheVariants.{SetupHold as AboutRise, RiseFall as RiseToFall, MinPulse as Widths}
 use Rattle.element_kinds.specs.Kinds.{check_of, may_be_marked}
-use Rattle.scald_base.specs.Time.{period}
 use Rattle.flat_circuit.specs.declared.limits.Limits.{Limits}
 use Rattle.flat_circuit.specs.Limits.{setup_of, hold_of, high_of, low_of}
 use Rattle.flat_circuit.specs.declared.instance.Instance.{Instance}
 use Rattle.flat_circuit.specs.declared.net.Net.{Net}
 use Rattle.flat_circuit.specs.Circuit.{Circuit}
-use Rattle.fixpoint_engine.specs.Waves.{Waves, marked_pin}
+use Rattle.fixpoint_engine.specs.Waves.{marked_pin}
 use Rattle.point_check.specs.Assertion.{is_held}
-use Rattle.critical_paths.specs.Event.{Events, events, same_direction}
-use Rattle.critical_paths.specs.Region.{region_to}
-use Rattle.slack_rows.specs.Slack.{Slack, Free, Ticks, Way, NoNumber, Place, Told, Nowhere, At, Arrived, InPulse, AtLevel, is_above, is_broken}
+use Rattle.critical_paths.specs.Event.{same_direction}
+use Rattle.critical_paths.specs.Region.{Region}
+use Rattle.slack_rows.specs.Slack.{Slack, Free, Ticks, Way, NoNumber, Place, Told, Nowhere, At, Arrived, InPulse, AtLevel, is_above, is_broken, is_free}
 use Rattle.slack_rows.specs.declared.parameter.Word.{Word as Limit}
 use Rattle.slack_rows.specs.declared.parameter.Word.TheVariants.{Setup, Hold, High, Low, Gate, Before as GateBefore, After as GateAfter, Assert, From as StableFrom, To as StableTo}
 use Rattle.slack_rows.specs.declared.parameter.Parameter.{Parameter}
 use Rattle.slack_rows.specs.declared.parameter.Subject.{Subject}
 use Rattle.slack_rows.specs.declared.parameter.Subject.TheVariants.{Instance as OfInstance, Net as OfNet}
-use Rattle.slack_rows.specs.Window.{Window}
-use Rattle.slack_rows.specs.Limit.{Case, Worst, beside, least_told, pin_folds, told_case, worst}
+use Rattle.slack_rows.specs.Limit.{Case, Worst, beside, has_slack, least_told, worst}
 
 -- ---- which limits there are
 
@@ -119,31 +115,23 @@ partner Assert = None
 partner StableFrom = None
 partner StableTo = Some StableFrom
 
-abbrev pub case_with : ℕ → List Case → Option Case
-case_with number [] = None
-case_with number (case ∷ cases) = if case.number == number then Some case else case_with number cases
+-- how many cases come before the first that passes
+abbrev pub first_where : (Case → Bool) → List Case → ℕ
+first_where test [] = 0
+first_where test (case ∷ cases) = if test case then 0 else first_where test cases + 1
 
-abbrev pub first_case : List Case → List ℕ → Option Case
-first_case cases [] = None
-first_case cases (number ∷ numbers) = case_with number cases
+-- the first case that has the least slack of a limit, by how many come before it
+abbrev pub first_with : Circuit → List Case → Subject → Limit → ℕ
+first_with c cases subject limit = first_where (has_slack c subject limit (least_told c cases subject limit).slack) cases
 
-abbrev pub changes_in : Circuit → Waves → Told → Option Instance → Events
-changes_in c ws told None t = false
-changes_in c ws told (Some j) t = events told.direction (pin_folds c ws j told.pin) t
+abbrev pub same_region : Region → Region → Bool
+same_region r s = (r.first == s.first) && (r.last == s.last)
 
--- the changes that something told of a subject speaks of
-abbrev pub changes_of : Circuit → Waves → Subject → Told → Events
-changes_of c ws (OfInstance k) told = changes_in c ws told (slice_get c.instances k)
-changes_of c ws (OfNet i) told = events told.direction (fold values (ws i))
-
-abbrev pub same_window : Window → Window → Bool
-same_window v w =
-    (v.edge_first == w.edge_first) && ((v.edge_last == w.edge_last) && ((v.opens == w.opens) && (v.closes == w.closes)))
-
--- the end of a region before an edge, and its begin after the same edge
-abbrev pub are_one_region : ℕ → Events → Place → Place → Bool
-are_one_region p ev (At v last) (At w first) = same_window v w && ((region_to p ev last).first == first)
-are_one_region p ev before after = false
+-- The end of a region before an edge, and its begin after that edge or a later one: it would do earlier or later. Where
+-- it is early after one edge and late for a later one, what mends the one makes the other worse.
+abbrev pub are_one_region : Place → Place → Bool
+are_one_region (At v r) (At w s) = nat_le v.opens w.opens && same_region r s
+are_one_region before after = false
 
 abbrev pub have_no_number : Slack → Slack → Bool
 have_no_number NoNumber NoNumber = true
@@ -153,23 +141,17 @@ abbrev pub is_same_pin : Told → Told → Bool
 is_same_pin a b = (a.pin == b.pin) && same_direction a.direction b.direction
 
 -- Neither has a number, or both are broken by one region of changes in one case.
-abbrev pub told_once : Circuit → Subject → Option Case → Told → Told → Bool
-told_once c subject None before after = have_no_number before.slack after.slack
-told_once c subject (Some case) before after =
+abbrev pub told_once : Bool → Told → Told → Bool
+told_once in_one_case before after =
     have_no_number before.slack after.slack
-    || (is_broken before.slack && (is_broken after.slack && (is_same_pin before after
-    && are_one_region (period c.header) (changes_of c case.waves subject before) before.place after.place)))
-
-abbrev pub first_number : List ℕ → ℕ
-first_number [] = 0
-first_number (number ∷ numbers) = number
+    || (is_broken before.slack && (is_broken after.slack && (in_one_case && (is_same_pin before after
+    && are_one_region before.place after.place))))
 
 abbrev pub is_told_by : Circuit → List Case → Row → Option Limit → Bool
 is_told_by c cases r None = false
 is_told_by c cases r (Some before) =
-    told_once c r.subject
-    (if first_number (worst c cases r.subject before).cases == first_number r.worst.cases then first_case cases r.worst.cases else None)
-    (worst c cases r.subject before).told r.worst.told
+    told_once (first_with c cases r.subject before == first_with c cases r.subject r.limit)
+    (least_told c cases r.subject before) r.worst.told
 
 -- the row before it tells it already
 abbrev pub is_told : Circuit → List Case → Row → Bool
@@ -186,12 +168,6 @@ abbrev pub sorted : List Row → List Row
 sorted [] = []
 sorted (r ∷ rows) = insert r (sorted rows)
 
-abbrev pub is_free : Slack → Bool
-is_free Free = true
-is_free (Ticks n) = false
-is_free (Way n) = false
-is_free NoNumber = false
-
 abbrev pub all_rows : Circuit → List Case → List Row
 all_rows c cases = flat_map (λ subject. map (row c cases subject) (limits_of c subject)) (subjects c)
 
@@ -202,6 +178,10 @@ own_rows c cases = filter (λ r. not (is_free (slack_of r)) && not (is_told c ca
 -- the worst first; of equal ones in the order of the subjects, and of a subject in that of its limits
 unfoldable pub rows : Circuit → List Case → List Row
 rows c cases = sorted (own_rows c cases)
+
+-- a broken one among them
+abbrev pub is_own_row : Circuit → List Case → Row → Bool
+is_own_row c cases r = is_broken (slack_of r) && not (is_told c cases r)
 
 -- how many are broken, and how many limits nothing can break
 abbrev pub broken_count : Circuit → List Case → ℕ

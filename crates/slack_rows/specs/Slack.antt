@@ -17,6 +17,13 @@ pub data Slack : Type 0 where
 
 -- ---- the order of slacks
 
+-- nothing can break it
+abbrev pub is_free : Slack → Bool
+is_free Free = true
+is_free (Ticks a) = false
+is_free (Way a) = false
+is_free NoNumber = false
+
 -- fewer ticks than none, a way alone, or no number
 abbrev pub is_broken : Slack → Bool
 is_broken NoNumber = true
@@ -126,7 +133,7 @@ two_in p ev two w = two_alone two w (met p ev w)
 -- launches; in a pulse, by its begin and width; at a level in a slot.
 pub data Place : Type 0 where
   Nowhere : Place
-  At : Window → ℕ → Place
+  At : Window → Region → Place
   Arrived : Window → ℕ → Place
   InPulse : ℕ → ℕ → Place
   AtLevel : ℕ → Place
@@ -148,32 +155,32 @@ told_at slack place = record { slack = slack; place = place; pin = 0; direction 
 abbrev pub told_of : ℕ → Direction → Told → Told
 told_of pin direction told = record { slack = told.slack; place = told.place; pin = pin; direction = direction }
 
--- How many ticks lie from the last change before to the window, and from the window to the first change after. Without a
--- change nothing can break.
-abbrev pub before_at : Window → Option ℕ → Told
-before_at w None = told_alone Free
-before_at w (Some t) = told_at (Ticks (pos w.opens -ℤ pos t)) (At w t)
+-- How many ticks lie from the last change before to the window, at the end of its region, and from the window to the first
+-- change after, at the begin of its own. Without a change nothing can break.
+abbrev pub before_at : ℕ → Events → Window → Option ℕ → Told
+before_at p ev w None = told_alone Free
+before_at p ev w (Some t) = told_at (Ticks (pos w.opens -ℤ pos t)) (At w (region_to p ev t))
 
-abbrev pub after_at : Window → Option ℕ → Told
-after_at w None = told_alone Free
-after_at w (Some t) = told_at (Ticks (pos t -ℤ pos (w.closes + 1))) (At w t)
+abbrev pub after_at : ℕ → Events → Window → Option ℕ → Told
+after_at p ev w None = told_alone Free
+after_at p ev w (Some t) = told_at (Ticks (pos t -ℤ pos (w.closes + 1))) (At w (region_from p ev t))
 
 -- By two launches, where there are two; or else by the regions.
-abbrev pub before_by : Window → Option (ℕ × ℕ) → Option ℕ → Told
-before_by w None last = before_at w last
-before_by w (Some ticks) last = told_at (Ticks (pos w.opens -ℤ pos ticks.0)) (Arrived w ticks.0)
+abbrev pub before_by : ℕ → Events → Window → Option (ℕ × ℕ) → Option ℕ → Told
+before_by p ev w None last = before_at p ev w last
+before_by p ev w (Some ticks) last = told_at (Ticks (pos w.opens -ℤ pos ticks.0)) (Arrived w ticks.0)
 
-abbrev pub after_by : Window → Option (ℕ × ℕ) → Option ℕ → Told
-after_by w None first = after_at w first
-after_by w (Some ticks) first = told_at (Ticks (pos ticks.1 -ℤ pos (w.closes + 1))) (Arrived w ticks.1)
+abbrev pub after_by : ℕ → Events → Window → Option (ℕ × ℕ) → Option ℕ → Told
+after_by p ev w None first = after_at p ev w first
+after_by p ev w (Some ticks) first = told_at (Ticks (pos ticks.1 -ℤ pos (w.closes + 1))) (Arrived w ticks.1)
 
 abbrev pub before_window : ℕ → Events → Launches → Window → Told
 before_window p ev launches w =
-    before_by w (two_launches launches w (met p ev w)) (last_before p ev (launches.side w) w)
+    before_by p ev w (two_launches launches w (met p ev w)) (last_before p ev (launches.side w) w)
 
 abbrev pub after_window : ℕ → Events → Launches → Window → Told
 after_window p ev launches w =
-    after_by w (two_launches launches w (met p ev w)) (first_after p ev (launches.side w) w)
+    after_by p ev w (two_launches launches w (met p ev w)) (first_after p ev (launches.side w) w)
 
 -- ---- the least of several
 

@@ -1,5 +1,5 @@
 -- What the program tells, in the words of the definitions.
-use Rattle.std.specs.Prelude.{◌≡◌, ℕ, ◌+◌, ◌*◌, not, ◌==◌, Bool, true, false, ℤ, pos, ◌+ℤ◌, ◌-ℤ◌, unsigned_abs, if◌then◌else◌, Option, Some, None}
+use Rattle.std.specs.Prelude.{◌≡◌, ℕ, ◌+◌, ◌*◌, not, ◌==◌, Bool, true, false, ℤ, pos, ◌+ℤ◌, ◌-ℤ◌, ◌≤ℤ◌, unsigned_abs, if◌then◌else◌, Option, Some, None}
 use Rattle.element_kinds.specs.declared.form.Check.{Check}
 use Rattle.element_kinds.specs.declared.form.Check.TheVariants.{SetupHold as AboutRise, RiseFall as RiseToFall, MinPulse as Widths}
 use Rattle.critical_paths.specs.declared.direction.Corner.{Corner}
@@ -7,6 +7,7 @@ use Rattle.critical_paths.specs.declared.direction.Corner.TheVariants.{Late as L
 use Rattle.critical_paths.specs.declared.direction.Direction.{Direction}
 use Rattle.critical_paths.specs.declared.direction.Direction.TheVariants.{Rise, Fall, Change}
 use Rattle.critical_paths.specs.declared.region.Region.{Region as Ticked}
+use Rattle.critical_paths.specs.Region.{Region}
 use Rattle.slack_rows.specs.declared.parameter.Word.{Word as Limit}
 use Rattle.slack_rows.specs.declared.parameter.Word.TheVariants.{Setup, Hold, High, Low, Gate, Before as GateBefore, After as GateAfter, Assert, From as StableFrom, To as StableTo}
 use Rattle.slack_rows.specs.declared.slack.Slack.{Slack as Number}
@@ -78,6 +79,10 @@ window_in p w =
       closes = ahead_of p w.to;
     }
 
+-- a region as the definitions count its ticks
+abbrev pub region_in : ℕ → Ticked → Region
+region_in p r = record { first = ahead_of p r.first; last = ahead_of p r.last }
+
 abbrev pub place_without : Reason → Place
 place_without Data = Nowhere
 place_without DataLoop = Nowhere
@@ -92,7 +97,7 @@ in_pulse found = InPulse (unsigned_abs found.tick) (unsigned_abs (found.window.l
 
 -- A pulse that may be swallowed is one slot wide.
 abbrev pub place_by : ℕ → Found → By → Place
-place_by p found (ByRegion region) = At (window_in p found.window) (ahead_of p found.tick)
+place_by p found (ByRegion region) = At (window_in p found.window) (region_in p region)
 place_by p found (ByWay node) = Arrived (window_in p found.window) (ahead_of p found.tick)
 place_by p found Quiet = Nowhere
 place_by p found Pulse = in_pulse found
@@ -114,10 +119,41 @@ told_by_found p found =
       direction = found.direction;
     }
 
+-- A number by a region. The region and its window do not begin before the ticks that the definitions count, so that two
+-- of them compare as the definitions say.
+pub record IsByRegion (p : ℕ) (found : Found) (r : Ticked) : Type 0 where
+  pub number : (n : ℤ) × (found.slack ≡ NumberOfTicks n)
+  pub opens : pos 0 ≤ℤ (pos (3 * p) +ℤ (found.window.from -ℤ pos 1))
+  pub first : pos 0 ≤ℤ (pos (3 * p) +ℤ r.first)
+  pub last : pos 0 ≤ℤ (pos (3 * p) +ℤ r.last)
+
+-- the region that it is told by, if it is told by one
+abbrev pub region_told : By → Option Ticked
+region_told (ByRegion region) = Some region
+region_told (ByWay node) = None
+region_told Quiet = None
+region_told Pulse = None
+region_told Swallowed = None
+region_told Repeated = None
+region_told Nothing = None
+
+abbrev pub IsNear : ℕ → Found → By → Type 0
+IsNear p found (ByRegion region) = IsByRegion p found region
+IsNear p found (ByWay node) = Unit {0}
+IsNear p found Quiet = Unit {0}
+IsNear p found Pulse = Unit {0}
+IsNear p found Swallowed = Unit {0}
+IsNear p found Repeated = Unit {0}
+IsNear p found Nothing = Unit {0}
+
+pub record IsTold (p : ℕ) (found : Found) (told : Told) : Type 0 where
+  pub is : told ≡ told_by_found p found
+  pub near : IsNear p found found.by
+
 -- What the program has is what is told: where nothing can break, nothing.
 abbrev pub Tells : ℕ → Option Found → Told → Type 0
 Tells p None told = told.slack ≡ Free
-Tells p (Some found) told = told ≡ told_by_found p found
+Tells p (Some found) told = IsTold p found told
 
 -- how many ticks lie between a tick and a window, before it or after it
 abbrev pub spare_at : Corner → Around → ℤ → ℤ

@@ -1,6 +1,6 @@
 //! Slacks about windows, by the regions of changes near them.
 
-ghost use Rattle.std.specs.Prelude.{◌≡◌, ◌<◌, ◌≤◌, ◌+◌, ◌*◌, ◌^◌, ◌++◌, ◌≤ℤ◌, ◌+ℤ◌, ◌-ℤ◌, IfOk, IfSome, List, None, OnOk, Some, length, map, pos, true, ℕ};
+ghost use Rattle.std.specs.Prelude.{◌≡◌, ◌<◌, ◌≤◌, ◌+◌, ◌*◌, ◌^◌, ◌++◌, ◌≤ℤ◌, ◌+ℤ◌, ◌-ℤ◌, IfNone, IfOk, IfSome, List, None, OnOk, Some, length, map, pos, true, ℕ};
 ghost use Rattle.std.specs.List.{All, AllByRecursion};
 ghost use Rattle.std.specs.Option.{option_and_then, option_map};
 ghost use Rattle.scald_base.specs.Time.{period};
@@ -13,9 +13,9 @@ ghost use Rattle.critical_paths.specs.Tick.{IsWithin, most_tick};
 ghost use Rattle.critical_paths.specs.Launch.{ago};
 ghost use Rattle.critical_paths.specs.Told.{Knows, ago_in, edge_in};
 ghost use Rattle.critical_paths.specs.Views.{IsPin, Sees, later_by};
-ghost use Rattle.slack_rows.specs.Held.{AreAround, AreChanges, GoesOn, IsClose, IsCloseWindow, IsHeld, IsInPeriod, IsNearPath, Lies, MayBeHeld, TellWindow, TellWindows, edge_at_pin, held_edge, held_side, in_period, in_periods, launches_of, lies_by_ends, place_in, region_in, side_held, slacks_of_two, step_held, told_back, told_by_arrival, two_of, windows_about};
+ghost use Rattle.slack_rows.specs.Held.{AreAround, AreChanges, GoesOn, IsBrokenByTwo, IsClose, IsCloseWindow, IsHeld, IsInPeriod, IsNearPath, Lies, MayBeHeld, TellWindow, TellWindows, edge_at_pin, held_edge, held_side, in_period, in_periods, launches_of, lies_by_ends, place_in, side_held, slacks_of_two, step_held, told_back, told_by_arrival, two_of, windows_about};
 ghost use Rattle.slack_rows.specs.Laws.{IsPlaced};
-ghost use Rattle.slack_rows.specs.Views.{ahead_of, end_at, is_two, meets_window, side_in, spare_at, told_by_region, window_about, window_in};
+ghost use Rattle.slack_rows.specs.Views.{ahead_of, end_at, is_two, meets_window, region_in, side_in, spare_at, told_by_region, window_about, window_in};
 
 use crate::around::{Around, Side, side_by};
 use crate::slack::{By, Slack, Slacks, Told};
@@ -560,6 +560,13 @@ fn broken_by(held: Held, window: Window, late: Arrival, early: Arrival) -> Optio
     requires late { IsWithin most_tick late.tick }
     requires early { IsWithin most_tick early.tick }
     ensures level { IfSome result (λ found. found.level ≡ None) }
+    ensures before { IfSome result (λ found. found.before ≡ Some (told_by_arrival held
+        (Slack.Ticks (spare_at Late window late.tick)) window late)) }
+    ensures after { IfSome result (λ found. found.after ≡ Some (told_by_arrival held
+        (Slack.Ticks (spare_at Early window early.tick)) window early)) }
+    ensures broken { IfSome result IsBrokenByTwo }
+    ensures met { IfNone result ((pos 0 ≤ℤ spare_at Late window late.tick)
+        × (pos 0 ≤ℤ spare_at Early window early.tick)) }
 {
     let before = told_at(Corner::Late, window, late.tick);
     let after = told_at(Corner::Early, window, early.tick);
@@ -591,6 +598,7 @@ fn by_two<W: CyclicWave<Item = Value>>(
     ensures paths { OnOk result (GoesOn view.now.circuit.now (waves_of view.now.waves.now)
         paths.old.nodes paths.new.nodes paths.new.met.entries) }
     ensures level { IfOk result (λ found. IfSome found (λ all. all.level ≡ None)) }
+    ensures broken { IfOk result (λ found. IfSome found IsBrokenByTwo) }
 {
     let Some(edge) = edge_of(view, paths, held, window, Corner::Late)? else {
         return Ok(None);
@@ -634,6 +642,7 @@ fn by_two_if<W: CyclicWave<Item = Value>>(
     ensures paths { OnOk result (GoesOn view.now.circuit.now (waves_of view.now.waves.now)
         paths.old.nodes paths.new.nodes paths.new.met.entries) }
     ensures level { IfOk result (λ two. IfSome two (λ found. found.level ≡ None)) }
+    ensures broken { IfOk result (λ two. IfSome two IsBrokenByTwo) }
     ensures only { IfOk result (λ two. met ≡ None → two ≡ None) }
 {
     match met {

@@ -1,7 +1,7 @@
 //! A slack, and what it comes from.
 
 ghost use Rattle.std.specs.Prelude.{◌≡◌, None, Some};
-ghost use Rattle.slack_rows.specs.Slack.{is_broken as breaks, is_less as less};
+ghost use Rattle.slack_rows.specs.Slack.{is_above as above, is_broken as breaks, is_less as less};
 ghost use Rattle.slack_rows.specs.Views.{lesser_found, rank_of, slack_by, slack_for, ticks_of, told_none};
 
 use crate::parameter::Word;
@@ -86,6 +86,13 @@ impl Slack {
                 ticks: Some(ticks),
             },
         }
+    }
+
+    /// Whether its row stands above that of another one: by the order of ranks.
+    pub fn is_above(self, than: Slack) -> bool
+        ensures { result ≡ above (slack_by self) (slack_by than) }
+    {
+        self.rank() < than.rank()
     }
 
     /// Whether it comes before another one of the same limit: what is broken first, of that no

@@ -1,17 +1,15 @@
 //! The slacks of a checker, a marked gate or an asserted net in a case.
 
-ghost use Rattle.std.specs.Prelude.{◌≡◌, IfOk, OnOk, Some, false, length};
-ghost use Rattle.std.specs.List.{All};
+ghost use Rattle.std.specs.Prelude.{◌≡◌, IfOk, OnOk, Some, false, true, length};
 ghost use Rattle.scald_base.specs.Time.{period};
 ghost use Rattle.flat_circuit.specs.Instances.{InstanceFits};
 ghost use Rattle.fixpoint_engine.specs.Waves.{waves_of};
 ghost use Rattle.critical_paths.specs.Told.{Knows};
 ghost use Rattle.critical_paths.specs.Views.{Sees};
 ghost use Rattle.slack_rows.specs.Held.{GoesOn};
-ghost use Rattle.slack_rows.specs.Known.{SlacksKnown};
+ghost use Rattle.slack_rows.specs.Known.{SlacksKnown, TellLimits};
 ghost use Rattle.slack_rows.specs.Limit.{by_arrivals, instance_by_arrivals, told_in, told_instance};
 ghost use Rattle.slack_rows.specs.Rows.{limits_of, limits_of_instance};
-ghost use Rattle.slack_rows.specs.Views.{Tells, slack_for};
 
 use crate::limits::{is_held, marked_pin};
 use crate::parameter::Subject;
@@ -39,10 +37,9 @@ fn instance_slacks<W: CyclicWave<Item = Value>>(
     ensures paths { OnOk result (GoesOn view.now.circuit.now (waves_of view.now.waves.now)
         paths.old.nodes paths.new.nodes paths.new.met.entries) }
     ensures told { let c = view.now.circuit.now in let ws = waves_of view.now.waves.now in
-        let j = Some instance.now in instance_by_arrivals c ws j ≡ false →
-        IfOk result (λ found. All (λ word.
-        Tells (period c.header) (slack_for found word) (told_instance c ws word j))
-        (limits_of_instance j)) }
+        let j = Some instance.now in IfOk result
+        (TellLimits (period c.header) (instance_by_arrivals c ws j)
+        (λ word. told_instance c ws word j) (limits_of_instance j)) }
 {
     if instance.kind.may_be_marked() {
         return match marked_pin(instance) {
@@ -71,9 +68,8 @@ fn slacks_of<W: CyclicWave<Item = Value>>(
     ensures paths { OnOk result (GoesOn view.now.circuit.now (waves_of view.now.waves.now)
         paths.old.nodes paths.new.nodes paths.new.met.entries) }
     ensures told { let c = view.now.circuit.now in let ws = waves_of view.now.waves.now in
-        by_arrivals c ws subject ≡ false → IfOk result (λ found. All (λ word.
-        Tells (period c.header) (slack_for found word) (told_in c ws subject word))
-        (limits_of c subject)) }
+        IfOk result (TellLimits (period c.header) (by_arrivals c ws subject)
+        (told_in c ws subject) (limits_of c subject)) }
 {
     match subject {
         Subject::Net(number) => match view.circuit.net(number) {
@@ -89,7 +85,8 @@ fn slacks_of<W: CyclicWave<Item = Value>>(
 
 /// Whether a subject is another one than this.
 fn is_other(known: Option<Subject>, subject: Subject) -> bool
-    ensures { result ≡ false → known ≡ Some subject }
+    ensures known { result ≡ false → known ≡ Some subject }
+    ensures other { result ≡ true → known ≡ Some subject → ⊥ }
 {
     match known {
         Some(own) => own != subject,
@@ -113,6 +110,7 @@ pub fn slacks_at<W: CyclicWave<Item = Value>>(
         paths.old.nodes paths.new.nodes paths.new.met.entries) }
     ensures told { IfOk result (λ found. SlacksKnown view.now.circuit.now
         (waves_of view.now.waves.now) (Some subject) found) }
+    ensures same { known ≡ Some subject → IfOk result (λ found. found ≡ slacks) }
 {
     if is_other(known, subject) {
         let found = slacks_of(view, paths, subject)?;

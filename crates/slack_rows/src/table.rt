@@ -1,59 +1,128 @@
 //! Which limits have a row of their own in the table, and how many nothing can break.
 
-ghost use Rattle.std.specs.Prelude.{◌≡◌, ◌<◌, ◌==◌, not, true, List, Some, length, slice_get};
+ghost use Rattle.std.specs.Prelude.{◌≡◌, ◌<◌, ◌==◌, ◌&&◌, ℕ, not, true, int_le, is_some, List, Some, false, length, slice_get};
 ghost use Rattle.std.specs.List.{list_any};
 ghost use Rattle.flat_circuit.specs.Circuit.{Circuit};
 ghost use Rattle.slack_rows.specs.declared.parameter.Parameter.{Parameter};
-ghost use Rattle.slack_rows.specs.Known.{AreKnown, are_sure, breaks, free_by, least_at};
+ghost use Rattle.slack_rows.specs.Known.{AreKnown, are_sure, breaks, free_by, in_one_case, is_sure, least_at, told_least};
 ghost use Rattle.slack_rows.specs.Limit.{Case};
-ghost use Rattle.slack_rows.specs.Rows.{free_count as free_limits, some_broken};
+ghost use Rattle.slack_rows.specs.Rows.{are_one_region, broken_count as broken_limits, free_count as free_limits, have_no_number as none_of_both, is_own_row, is_same_pin as is_by_one_pin, is_told as is_told_before, partner, row, some_broken, told_once};
+ghost use Rattle.slack_rows.specs.Slack.{Told as Telling, is_broken as breaks_slack};
+ghost use Rattle.slack_rows.specs.Views.{IsNear, Tells, region_told, slack_by, told_by_found};
 
 use crate::parameter::Word;
 use crate::rows::{Least, Rows};
-use crate::slack::{By, Slack};
+use crate::slack::{By, Slack, Told};
+use crate::window::Window;
+use critical_paths::Region;
 
 /// Whether neither has a number.
-fn have_no_number(before: Least, after: Least) -> bool
-    ensures { result ≡ true → breaks (Some before) ≡ true }
+fn have_no_number(before: Told, after: Told) -> bool
+    ensures { result ≡ none_of_both (slack_by before.slack) (slack_by after.slack) }
 {
-    match (before.told.slack, after.told.slack) {
+    match (before.slack, after.slack) {
         (Slack::NoNumber(_), Slack::NoNumber(_)) => true,
         _ => false,
     }
 }
 
-/// Whether two slacks are told by one region of changes: by the same ticks of it.
-fn are_by_one(before: By, after: By) -> bool {
-    match (before, after) {
-        (By::Region(one), By::Region(other)) => one == other,
-        _ => false,
+/// Whether both are of the same steps of one pin.
+fn is_same_pin(before: Told, after: Told) -> bool
+    ensures { (p : ℕ) → result ≡ is_by_one_pin (told_by_found p before) (told_by_found p after) }
+{
+    before.pin == after.pin && before.direction == after.direction
+}
+
+/// The region of changes that a slack is told by, if it is told by one.
+fn region_of(by: By) -> Option<Region>
+    ensures { result ≡ region_told by }
+{
+    match by {
+        By::Region(region) => Some(region),
+        By::Way(_) | By::Quiet | By::Nothing => None,
+        By::Pulse | By::Swallowed | By::Repeated => None,
     }
 }
 
-/// Whether both sides of one window have one region of changes, which breaks both limits in one
-/// case: it would do earlier or later.
-fn have_one_region(before: Least, after: Least) -> bool
-    ensures { result ≡ true → breaks (Some before) ≡ true }
+/// Whether a window does not begin after another one.
+fn is_in_order(before: Window, after: Window) -> bool
+    ensures { result ≡ int_le before.from after.from }
 {
-    before.told.slack.is_broken()
-        && after.told.slack.is_broken()
-        && before.case == after.case
-        && before.told.pin == after.told.pin
-        && before.told.direction == after.told.direction
-        && before.told.window == after.told.window
-        && are_by_one(before.told.by, after.told.by)
+    before.from <= after.from
+}
+
+/// Whether they are the same ticks.
+fn are_same(one: Region, other: Region) -> bool
+    ensures same { result ≡ true → one ≡ other }
+    ensures other { result ≡ false → one ≡ other → ⊥ }
+{
+    one == other
+}
+
+/// Whether one region of changes is told before a window and after that or a later one: it would
+/// do earlier or later.
+fn have_one_region(before: Told, after: Told) -> bool
+    ensures { (p : ℕ) → IsNear p before before.by → IsNear p after after.by →
+        result ≡ are_one_region (told_by_found p before).place (told_by_found p after).place }
+{
+    let Some(one) = region_of(before.by) else {
+        return false;
+    };
+    let Some(other) = region_of(after.by) else {
+        return false;
+    };
+    if !is_in_order(before.window, after.window) {
+        return false;
+    }
+    are_same(one, other)
+}
+
+/// Whether both limits are broken.
+fn are_broken(before: Told, after: Told) -> bool
+    ensures { result
+        ≡ (breaks_slack (slack_by before.slack) && breaks_slack (slack_by after.slack)) }
+{
+    before.slack.is_broken() && after.slack.is_broken()
+}
+
+/// Whether both are told by one region of changes of one pin.
+fn have_one_cause(before: Told, after: Told) -> bool
+    ensures { (p : ℕ) → IsNear p before before.by → IsNear p after after.by →
+        result ≡ (is_by_one_pin (told_by_found p before) (told_by_found p after)
+        && are_one_region (told_by_found p before).place (told_by_found p after).place) }
+{
+    is_same_pin(before, after) && have_one_region(before, after)
+}
+
+/// Whether two slacks, which may be of one case, are told once: neither has a number, or one region
+/// breaks both limits.
+fn are_told_once(is_one_case: bool, before: Told, after: Told) -> bool
+    ensures broken { result ≡ true → breaks_slack (slack_by before.slack) ≡ true }
+    ensures told { (p : ℕ) → IsNear p before before.by → IsNear p after after.by →
+        result ≡ told_once is_one_case (told_by_found p before) (told_by_found p after) }
+{
+    if have_no_number(before, after) {
+        return true;
+    }
+    if !are_broken(before, after) {
+        return false;
+    }
+    is_one_case && have_one_cause(before, after)
 }
 
 /// Whether the slack of a limit is told with that of the one before it.
 fn is_told_with(before: Option<Least>, after: Option<Least>) -> bool
-    ensures { result ≡ true → breaks before ≡ true }
+    ensures broken { result ≡ true → breaks before ≡ true }
+    ensures told { (p : ℕ) (a b : Telling) → Tells p (told_least before) a →
+        Tells p (told_least after) b → result ≡ told_once (in_one_case before after) a b }
 {
-    match (before, after) {
-        (Some(before), Some(after)) => {
-            have_no_number(before, after) || have_one_region(before, after)
-        }
-        _ => false,
-    }
+    let Some(before) = before else {
+        return false;
+    };
+    let Some(after) = after else {
+        return false;
+    };
+    are_told_once(before.case == after.case, before.told, after.told)
 }
 
 /// Whether a limit is broken.
@@ -82,12 +151,27 @@ impl Rows {
     /// number, or one region breaks both.
     pub fn is_told(&self, place: usize) -> bool
         requires { place < length self.now.parameters }
-        ensures { result ≡ true → breaks (least_at self.now.least place 1) ≡ true }
+        ensures broken { result ≡ true → breaks (least_at self.now.least place 1) ≡ true }
+        ensures told { (c : Circuit) (cases : List Case) (q : Parameter) →
+            AreKnown c cases self.now.parameters self.now.least self.now.cases self.now.sets.keys →
+            slice_get self.now.parameters place ≡ Some q → is_sure c cases q.subject ≡ true →
+            result ≡ is_told_before c cases (row c cases q.subject q.word) }
+    {
+        if self.is_second(place) {
+            is_told_with(self.least_before(place, 1), self.least_before(place, 0))
+        } else {
+            false
+        }
+    }
+
+    /// Whether the limit before this one is on the other side of the same edges.
+    fn is_second(&self, place: usize) -> bool
+        requires { place < length self.now.parameters }
+        ensures { (q : Parameter) → slice_get self.now.parameters place ≡ Some q →
+            result ≡ is_some (partner q.word) }
     {
         match self.parameters.as_slice()[place].word {
-            Word::Hold | Word::After | Word::To => {
-                is_told_with(self.least_before(place, 1), self.least_before(place, 0))
-            }
+            Word::Hold | Word::After | Word::To => true,
             Word::Setup | Word::High | Word::Low | Word::Gate => false,
             Word::Before | Word::Assert | Word::From => false,
         }
@@ -114,7 +198,7 @@ impl Rows {
     pub fn free_count(&self) -> usize
         ensures { (c : Circuit) (cases : List Case) →
             AreKnown c cases self.now.parameters self.now.least self.now.cases self.now.sets.keys →
-            are_sure c cases ≡ true → result ≡ free_limits c cases }
+            result ≡ free_limits c cases }
     {
         let mut count = 0;
         for place in 0..self.parameters.len() {
@@ -131,13 +215,23 @@ impl Rows {
         ensures own { result ≡ true → breaks (least_at self.now.least place 0) ≡ true }
         ensures not { breaks (least_at self.now.least place 0) ≡ true →
             not result ≡ true → breaks (least_at self.now.least place 1) ≡ true }
+        ensures is { (c : Circuit) (cases : List Case) (q : Parameter) →
+            AreKnown c cases self.now.parameters self.now.least self.now.cases self.now.sets.keys →
+            slice_get self.now.parameters place ≡ Some q → is_sure c cases q.subject ≡ true →
+            result ≡ is_own_row c cases (row c cases q.subject q.word) }
     {
         is_broken(self.least_before(place, 0)) && !self.is_told(place)
     }
 
-    /// How many of the limits are broken and have a row of their own.
-    fn own_count(&self) -> usize
-        ensures { (result == 0) ≡ not (list_any breaks self.now.least) }
+    /// How many of the limits are broken and have a row of their own: none exactly where no limit
+    /// is broken.
+    pub fn broken_count(&self) -> usize
+        ensures none { (c : Circuit) (cases : List Case) →
+            AreKnown c cases self.now.parameters self.now.least self.now.cases self.now.sets.keys →
+            (result == 0) ≡ not (some_broken c cases) }
+        ensures are { (c : Circuit) (cases : List Case) →
+            AreKnown c cases self.now.parameters self.now.least self.now.cases self.now.sets.keys →
+            are_sure c cases ≡ true → result ≡ broken_limits c cases }
     {
         let mut count = 0;
         for place in 0..self.parameters.len() {
@@ -146,14 +240,5 @@ impl Rows {
             }
         }
         count
-    }
-
-    /// How many limits that have a row of their own are broken: none exactly where no limit is.
-    pub fn broken_count(&self) -> usize
-        ensures { (c : Circuit) (cases : List Case) →
-            AreKnown c cases self.now.parameters self.now.least self.now.cases self.now.sets.keys →
-            are_sure c cases ≡ true → (result == 0) ≡ not (some_broken c cases) }
-    {
-        self.own_count()
     }
 }

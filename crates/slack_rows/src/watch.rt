@@ -1,6 +1,6 @@
 //! What each checker, mark and assertion watches, and its slacks.
 
-ghost use Rattle.std.specs.Prelude.{◌≡◌, ◌<◌, ◌≤◌, ◌+◌, ◌^◌, ◌&&◌, not, IfOk, IfSome, OnOk, Some, None, if◌then◌else◌, length, slice_get, true, false, [], ◌∷◌};
+ghost use Rattle.std.specs.Prelude.{◌≡◌, ◌<◌, ◌≤◌, ◌+◌, ◌^◌, ◌&&◌, ◌==◌, not, IfOk, IfSome, OnOk, Some, None, if◌then◌else◌, is_some, length, slice_get, true, false, [], ◌∷◌};
 ghost use Rattle.std.specs.List.{All, AllByRecursion};
 ghost use Rattle.scald_base.specs.Time.{period};
 ghost use Rattle.step_values.specs.Steps.{has};
@@ -20,7 +20,7 @@ ghost use Rattle.critical_paths.specs.Event.{Events, events};
 ghost use Rattle.critical_paths.specs.Region.{IsCyclic, some_event};
 ghost use Rattle.critical_paths.specs.Told.{Knows};
 ghost use Rattle.critical_paths.specs.Views.{Sees, passing};
-ghost use Rattle.slack_rows.specs.Held.{AreChanges, AreSlots, GoesOn, IsHeld, IsInPeriod, IsLevelTold, IsSlots, MayBeHeld, TellBeside, TellDirections, TellParts, TellWatch, TellWindows, is_step_outside, lacking, launches_of, place_in, two_of, watch_at, windows_about};
+ghost use Rattle.slack_rows.specs.Held.{AreChanges, AreOfWays, AreSlots, GoesOn, IsHeld, IsInPeriod, IsLevelTold, IsSlots, MayBeHeld, TellBeside, TellDirections, TellParts, TellSides, TellWatch, TellWindows, is_high_outside, is_step_outside, lacking, launches_of, place_in, two_of, watch_at, windows_about};
 ghost use Rattle.slack_rows.specs.Launched.{opening};
 ghost use Rattle.slack_rows.specs.Laws.{IsPlaced};
 ghost use Rattle.slack_rows.specs.Limit.{check_by_arrivals, edge_limits as limits_at_edges, has_no_window, is_by_arrivals, mark_by_arrivals, pin_folds, steps_outside, told_check, told_mark, told_net};
@@ -166,7 +166,8 @@ fn first_level<W: CyclicWave<Item = Value>>(fold: &W, wide: &W) -> Option<Reason
     requires { length (W.cells wide.now) ≡ length (W.cells fold.now) }
     ensures { let p = length (W.cells fold.now) in let found = read (W.cells fold.now) in
         let permitted = read (W.cells wide.now) in
-        IsLevelTold result (steps_outside p found permitted) (first_excess p found permitted) }
+        IsLevelTold (λ t. is_high_outside (found t) (permitted t)) result
+        (steps_outside p found permitted) (first_excess p found permitted) }
 {
     if is_outside(fold, wide) {
         return None;
@@ -248,6 +249,8 @@ fn about_edges<W: CyclicWave<Item = Value>>(
         AllByRecursion (IsPlaced p) windows → IfOk result
         (TellWindows p ev (launches_of c ws (Some held)) (two_of c ws (Some held)) held.place
         Change windows) }
+    ensures ways { changes.now.are_all ≡ true →
+        IfOk result (AreOfWays (not (length edges.now == 0))) }
 {
     let watch = Watch {
         edges,
@@ -373,9 +376,9 @@ pub fn checker_slacks<W: CyclicWave<Item = Value>>(
     ensures paths { OnOk result (GoesOn view.now.circuit.now (waves_of view.now.waves.now)
         paths.old.nodes paths.new.nodes paths.new.met.entries) }
     ensures told { let c = view.now.circuit.now in let ws = waves_of view.now.waves.now in
-        check_by_arrivals c ws checker.now (Some check) ≡ false → IfOk result (λ found.
-        (Tells (period c.header) found.before (told_check c ws checker.now Setup (Some check)))
-        × (Tells (period c.header) found.after (told_check c ws checker.now Hold (Some check)))) }
+        let j = checker.now in IfOk result
+        (TellSides (period c.header) (check_by_arrivals c ws j (Some check))
+        (told_check c ws j Setup (Some check)) (told_check c ws j Hold (Some check))) }
 {
     // no period is short
     let _period = view.period();
@@ -397,7 +400,8 @@ pub fn checker_slacks<W: CyclicWave<Item = Value>>(
 
 /// Why changes are never to come: the mark is never at rest, or a net's assertion permits none.
 fn never_still(held: Option<Held>) -> Reason
-    ensures { place_without result ≡ Nowhere }
+    ensures is { result ≡ (if is_some held then Reason.Mark else Reason.Still) }
+    ensures place { place_without result ≡ Nowhere }
 {
     match held {
         Some(_) => Reason::Mark,
@@ -550,11 +554,13 @@ pub fn gate_slacks<W: CyclicWave<Item = Value>>(
         (length view.now.circuit.now.nets) gate.now }
     ensures paths { OnOk result (GoesOn view.now.circuit.now (waves_of view.now.waves.now)
         paths.old.nodes paths.new.nodes paths.new.met.entries) }
-    ensures told { let c = view.now.circuit.now in let ws = waves_of view.now.waves.now in
-        mark_by_arrivals c ws gate.now (Some marked) ≡ false → IfOk result (λ found.
-        (Tells (period c.header) found.level (told_mark c ws gate.now Gate (Some marked)))
-        × (Tells (period c.header) found.before (told_mark c ws gate.now GateBefore (Some marked)))
-        × (Tells (period c.header) found.after (told_mark c ws gate.now GateAfter (Some marked)))) }
+    ensures level { let c = view.now.circuit.now in let ws = waves_of view.now.waves.now in
+        IfOk result (λ found.
+        Tells (period c.header) found.level (told_mark c ws gate.now Gate (Some marked))) }
+    ensures sides { let c = view.now.circuit.now in let ws = waves_of view.now.waves.now in
+        let j = gate.now in IfOk result
+        (TellSides (period c.header) (mark_by_arrivals c ws j (Some marked))
+        (told_mark c ws j GateBefore (Some marked)) (told_mark c ws j GateAfter (Some marked))) }
 {
     // there is a slot, since no period is short
     let _period = view.period();

@@ -1,13 +1,14 @@
 //! Slacks where the data may change in every slot: by its ways from the edges of the clock.
 
-ghost use Rattle.std.specs.Prelude.{◌≡◌, ◌+◌, ◌<◌, ◌≤◌, ◌^◌, IfOk, None, OnOk, length};
+ghost use Rattle.std.specs.Prelude.{◌≡◌, ◌==◌, ◌+◌, ◌<◌, ◌≤◌, ◌^◌, not, true, IfOk, IfSome, None, OnOk, length};
 ghost use Rattle.std.specs.List.{All};
 ghost use Rattle.scald_base.specs.Time.{period as period_of};
 ghost use Rattle.fixpoint_engine.specs.Waves.{waves_of};
 ghost use Rattle.critical_paths.specs.Tick.{IsWithin, most_tick};
 ghost use Rattle.critical_paths.specs.Told.{Knows};
 ghost use Rattle.critical_paths.specs.Views.{Sees};
-ghost use Rattle.slack_rows.specs.Held.{GoesOn, IsHeld, IsInPeriod};
+ghost use Rattle.slack_rows.specs.Held.{AreOfWays, GoesOn, IsHeld, IsInPeriod};
+ghost use Rattle.slack_rows.specs.Views.{is_starred, slack_by};
 
 use crate::guard::{Guard, Guards, moved_to};
 use crate::sides::{Held, Watch, at_pin, edge_of, find, told_at, window_of};
@@ -89,6 +90,7 @@ fn way(period: u16, held: Held, edge: Guard, arrival: Arrival, corner: Corner) -
     requires period { period ≤ 4096 }
     requires ideal { IsWithin (2 ^ 46) arrival.ideal }
     requires tick { IsWithin (2 ^ 46 + 65536) arrival.tick }
+    ensures { is_starred (slack_by result.slack) ≡ true }
 {
     let later = moved_to(period, edge.ideal, arrival.ideal, corner);
     let tick = arrival.tick - later;
@@ -109,6 +111,8 @@ fn with_arrival<W: CyclicWave<Item = Value>>(
     requires sees { Sees view.now.circuit.now view.now.waves.now view.now.hazards.now }
     requires ideal { IsWithin (2 ^ 46) arrival.ideal }
     requires tick { IsWithin (2 ^ 46) arrival.tick }
+    requires best { IfSome best (λ told. is_starred (slack_by told.slack) ≡ true) }
+    ensures { IfSome result (λ told. is_starred (slack_by told.slack) ≡ true) }
 {
     let period = view.period();
     let found = at_pin(view, held, arrival, corner);
@@ -132,8 +136,11 @@ fn with_edge<W: CyclicWave<Item = Value>>(
     requires sees { Sees view.now.circuit.now view.now.waves.now view.now.hazards.now }
     requires knows { Knows view.now.circuit.now (waves_of view.now.waves.now) paths.old.nodes
         paths.old.met.entries }
-    ensures { OnOk result (GoesOn view.now.circuit.now (waves_of view.now.waves.now)
+    requires best { IfSome so_far.best (λ told. is_starred (slack_by told.slack) ≡ true) }
+    ensures paths { OnOk result (GoesOn view.now.circuit.now (waves_of view.now.waves.now)
         paths.old.nodes paths.new.nodes paths.new.met.entries) }
+    ensures best { IfOk result (λ least. IfSome least.best
+        (λ told. is_starred (slack_by told.slack) ≡ true)) }
 {
     let Some((from, to)) = find(view, paths, held, edge.net, corner)? else {
         return Ok(Least {
@@ -167,6 +174,8 @@ fn best_of<W: CyclicWave<Item = Value>>(
 ) -> Option<Told>
     requires sees { Sees view.now.circuit.now view.now.waves.now view.now.hazards.now }
     requires numbers { numbers.1 ≤ length paths.now.arrivals }
+    requires best { IfSome so_far (λ told. is_starred (slack_by told.slack) ≡ true) }
+    ensures { IfSome result (λ told. is_starred (slack_by told.slack) ≡ true) }
 {
     let (from, to) = numbers;
     let mut best = so_far;
@@ -192,8 +201,9 @@ fn side<W: CyclicWave<Item = Value>>(
     requires held { IsHeld view.now.circuit.now held }
     requires edges { All (IsInPeriod (period_of view.now.circuit.now.header)) watch.edges.now }
     requires limits { watch.limits.0 ≤ period_of view.now.circuit.now.header }
-    ensures { OnOk result (GoesOn view.now.circuit.now (waves_of view.now.waves.now)
+    ensures paths { OnOk result (GoesOn view.now.circuit.now (waves_of view.now.waves.now)
         paths.old.nodes paths.new.nodes paths.new.met.entries) }
+    ensures starred { IfOk result (λ told. is_starred (slack_by told.slack) ≡ true) }
 {
     let edges = edges(view, paths, watch, held, corner)?;
     let mut least = Least {
@@ -225,6 +235,7 @@ pub fn by_ways<W: CyclicWave<Item = Value>>(
     ensures paths { OnOk result (GoesOn view.now.circuit.now (waves_of view.now.waves.now)
         paths.old.nodes paths.new.nodes paths.new.met.entries) }
     ensures level { IfOk result (λ found. found.level ≡ None) }
+    ensures ways { IfOk result (AreOfWays (not (length watch.entry.edges.now == 0))) }
 {
     // about no edge nothing can break
     if watch.edges.is_empty() {

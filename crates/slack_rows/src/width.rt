@@ -15,7 +15,7 @@ ghost use Rattle.flat_circuit.specs.Limits.{high_of, low_of};
 ghost use Rattle.critical_paths.specs.Tick.{IsWithin, most_tick};
 ghost use Rattle.critical_paths.specs.Views.{Sees};
 ghost use Rattle.slack_rows.specs.Limit.{begin_of, told_level};
-ghost use Rattle.slack_rows.specs.Pulse.{left_at, left_by, left_if, left_in, left_of as left_after, may_change_again, narrowest as narrowest_of, told_wave};
+ghost use Rattle.slack_rows.specs.Pulse.{latest_begin, left_at, left_by, left_if, left_in, left_of as left_after, may_change_again, narrowest as narrowest_of, told_wave};
 ghost use Rattle.slack_rows.specs.Slack.{told_of};
 ghost use Rattle.slack_rows.specs.Views.{Tells};
 
@@ -147,7 +147,9 @@ fn narrowest_made<W: CyclicWave<Item = Value>>(
 }
 
 /// How late a pulse at a level may begin.
-fn late_begin(split: &Split, level: bool) -> u16 {
+fn late_begin(split: &Split, level: bool) -> u16
+    ensures { result ≡ latest_begin split.now level }
+{
     if level {
         split.rise.max
     } else {
@@ -159,6 +161,8 @@ fn late_begin(split: &Split, level: bool) -> u16 {
 /// begins at its output, and how many ticks are left.
 fn nothing_left(split: &Split, level: bool, pulse: (u16, u16)) -> Option<(i64, i64)>
     ensures left { option_map (λ left. left.1) result ≡ left_if split.now level (Some pulse) }
+    ensures begin { IfSome result
+        (λ left. left.0 ≡ pos pulse.0 +ℤ pos (latest_begin split.now level)) }
     ensures near { IfSome result (λ left. IsWithin (2 ^ 20) left.0) }
     ensures few { IfSome result (λ left. IsWithin (2 ^ 20) left.1) }
 {

@@ -3,4 +3,5 @@ use Rattle.std.proofs.lemmas.Option.{slice_get_within}
 use Rattle.critical_paths.proofs.arrival.is_at_clock.Goals as goal
 
 pub returns-in-Some : goal.returns-in-Some
-returns-in-Some g c = λ same. slice_get_within c.args.view.now.circuit.now.nets c.args.place.net _ (sym c.in-Some.ensures)
+returns-in-Some g c = λ same. slice_get_within c.args.view.now.circuit.now.nets c.args.place.net _
+    (sym c.in-Some.ensures)

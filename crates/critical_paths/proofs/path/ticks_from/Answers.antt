@@ -1,4 +1,4 @@
-use Rattle.std.proofs.Common.{◌≡◌, ℕ, ◌+◌, ◌-◌, ◌*◌, List, length, drop, ◌∙◌, sym, subst, arith, ℤ, ◌+ℤ◌, to_z, of_z, w64}
+use Rattle.std.proofs.Common.{◌≡◌, ◌+◌, ◌-◌, ◌*◌, drop, sym, subst, arith, ℤ, ◌+ℤ◌, to_z, w64}
 use Rattle.std.proofs.lemmas.Int.{ints}
 use Rattle.critical_paths.specs.declared.event.Stop.{Stop}
 use Rattle.critical_paths.specs.declared.path.Passage.{Passage}

@@ -1,4 +1,4 @@
-use Rattle.std.proofs.Common.{◌≡◌, ℕ, ◌+◌, ◌≤◌, false, true, length, not, arith, rules}
+use Rattle.std.proofs.Common.{◌≡◌, ◌+◌, ◌≤◌, false, true, length, not, arith, rules}
 use Rattle.step_values.specs.Cell.{values}
 use Rattle.wave_core.specs.Slots.{cell_round}
 use Rattle.critical_paths.specs.Views.{passes}

@@ -35,4 +35,4 @@ returns-clause-told g c =
     about_told (period circuit.header) ev c.args.watch.changes.now (omega (arith, long, is)) are circuit (waves_of c.args.view.now.waves.now)
     c.args.watch.held c.args.window c.requires.window placed c.in_ok-all.all c.in_ok-all.ensures.are (place_in c.args.watch.held) c.args.watch.direction
     c.meets_two-met.result c.in_ok-two.two c.by_regions-regions.result c.either.result c.meets_two-met.ensures.two c.meets_two-met.ensures.met
-    c.in_ok-two.ensures.only c.by_regions-regions.ensures.before c.by_regions-regions.ensures.after c.either.ensures
+    c.in_ok-two.ensures.only c.in_ok-two.ensures.broken c.by_regions-regions.ensures.before c.by_regions-regions.ensures.after c.either.ensures

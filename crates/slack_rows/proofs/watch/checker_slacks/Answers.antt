@@ -1,4 +1,4 @@
-use Rattle.std.proofs.Common.{◌≡◌, ℕ, ◌+◌, ◌<◌, ◌≤◌, List, Option, Some, length, sym, ap, subst, ◌∙◌, arith}
+use Rattle.std.proofs.Common.{None, refl, ◌≡◌, ℕ, ◌+◌, ◌<◌, ◌≤◌, List, Option, Some, length, sym, ap, subst, ◌∙◌, arith}
 use Rattle.std.specs.Prelude.{IfOk}
 use Rattle.scald_base.specs.Time.{period}
 use Rattle.step_values.specs.declared.value.Value.{Value}
@@ -11,13 +11,14 @@ use Rattle.point_check.specs.Window.{Folds}
 use Rattle.critical_paths.specs.declared.direction.Direction.TheVariants.{Rise, Change}
 use Rattle.critical_paths.specs.Event.{Events, events, moves}
 use Rattle.critical_paths.specs.Region.{IsCyclic}
+use Rattle.slack_rows.specs.declared.slack.Slacks.{Slacks}
 use Rattle.slack_rows.specs.Held.{AreSlots, TellWatch, launches_of, two_of}
 use Rattle.slack_rows.specs.Limit.{edge_limits, is_by_arrivals, least_still, pin_folds, still_after, still_before}
 use Rattle.slack_rows.specs.Slack.{told_of}
 use Rattle.slack_rows.specs.Views.{Tells}
 use Rattle.slack_rows.specs.Watch.{rise_watch, span_watch}
 use Rattle.slack_rows.proofs.Checkers.{folds_repeat}
-use Rattle.slack_rows.proofs.Checking.{event_none, event_some, exists_at, free_check, is_held, quiet_check, rise_check, span_check}
+use Rattle.slack_rows.proofs.Checking.{event_none, event_some, exists_at, free_both, free_check, is_held, quiet_check, rise_check, span_check}
 use Rattle.slack_rows.proofs.Parting.{folds_are}
 use Rattle.slack_rows.proofs.Watching.{may_are}
 use Rattle.slack_rows.proofs.watch.checker_slacks.Goals as goal
@@ -106,9 +107,11 @@ returns-then-are_none-clause-told g c =
     (λ t. ap (λ (v : Value). moves Change (has v)) (folds_repeat p w same t)) in
     let are = subst (λ (ev : Events). AreSlots p ev c.in_ok-changes.changes) (may_are Change cells ∙ ap (events Change) data_is)
     c.in_ok-changes.ensures.are in
-    λ exact. free_check circuit ws j c.args.check c.requires.edges cyclic long
+    let nothing : Slacks = record { level = None; before = None; after = None } in
+    free_both circuit ws j c.args.check nothing refl
+    (free_check circuit ws j c.args.check c.requires.edges cyclic long
     (event_none p (events Change (pin_folds circuit ws j 1)) c.in_ok-changes.changes cyclic long are
-    (sym c.are_none.ensures ∙ c.if-are_none.true))
+    (sym c.are_none.ensures ∙ c.if-are_none.true)))
 
 pub returns-then-is_to_fall-clause-told : goal.returns-then-is_to_fall-clause-told
 returns-then-is_to_fall-clause-told g c =
@@ -174,7 +177,7 @@ returns-then-asks_nothing-clause-told g c =
     let clock_is = read_folded v clocks (omega (arith, long, same_clock)) c.in_ok-clock.ensures
     ∙ sym (folds_are circuit ws j 0 clock c.held_by-held.ensures.clock) in
     let count = length_folded v clocks c.in_ok-clock.ensures ∙ same_clock in
-    λ exact. quiet_check circuit ws j c.args.check c.quiet_slacks.result (c.is_to_fall.ensures.rise c.if-is_to_fall.false c.requires.edges)
+    quiet_check circuit ws j c.args.check c.quiet_slacks.result (c.is_to_fall.ensures.rise c.if-is_to_fall.false c.requires.edges)
     (sym c.asks_nothing.ensures ∙ c.if-asks_nothing.true)
     (subst (λ (n : ℕ). Tells n c.quiet_slacks.result.before (told_of 1 Change (least_still (still_before n (events Change (pin_folds circuit ws j 1))) n
     (events Rise (pin_folds circuit ws j 0))))) count

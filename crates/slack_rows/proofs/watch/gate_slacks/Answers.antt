@@ -1,4 +1,4 @@
-use Rattle.std.proofs.Common.{◌≡◌, subst, sym, ap, ◌∙◌, length, ◌<◌, arith}
+use Rattle.std.proofs.Common.{◌≡◌, subst, sym, ap, ◌∙◌, length, ◌<◌, ◌≤◌, arith}
 use Rattle.std.proofs.lemmas.Option.{get_or_from_slice_get}
 use Rattle.scald_base.specs.Time.{period}
 use Rattle.step_values.specs.Cell.{values}
@@ -12,7 +12,7 @@ use Rattle.critical_paths.specs.Event.{Events}
 use Rattle.slack_rows.specs.Held.{AreSlots}
 use Rattle.slack_rows.specs.Watch.{opens}
 use Rattle.slack_rows.proofs.Launching.{goes_then}
-use Rattle.slack_rows.proofs.Marking.{lets_are, marked_more}
+use Rattle.slack_rows.proofs.Marking.{lets_are, marked_all, marked_more}
 use Rattle.slack_rows.proofs.Parting.{folds_are}
 use Rattle.slack_rows.proofs.watch.gate_slacks.Goals as goal
 
@@ -60,3 +60,12 @@ loop-place-preserved g c =
           c.loop-place.invariant.marked (c.in_ok-found.ensures.told are) c.lesser-all.ensures.level c.lesser-all.ensures.before
           c.lesser-all.ensures.after;
     }
+
+pub returns : goal.returns
+returns g c =
+    let past = c.loop-place-test.false in
+    let most = c.loop-place.auto.place-end in
+    let long = c.len-place-end.ensures in
+    let all = marked_all c.args.view.now.circuit.now (waves_of c.args.view.now.waves.now) c.args.gate.now c.args.marked c.loop-place.place
+    c.loop-place.all (omega (arith, past, most, long)) c.loop-place.invariant.marked in
+    record { paths = c.loop-place.invariant.goes; level = all.0; sides = all.1 }

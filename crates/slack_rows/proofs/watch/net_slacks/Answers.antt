@@ -1,4 +1,4 @@
-use Rattle.std.proofs.Common.{◌≡◌, ℕ, ◌<◌, List, length, map, Option, sym, ap, subst, ◌∙◌, arith}
+use Rattle.std.proofs.Common.{◌≡◌, ℕ, ◌<◌, Bool, List, length, map, Option, sym, ap, subst, ◌∙◌, arith}
 use Rattle.std.proofs.lemmas.Option.{slice_get_within}
 use Rattle.scald_base.specs.declared.assertion.AssertSpec.{AssertSpec}
 use Rattle.scald_base.specs.Time.{Header, period}
@@ -19,7 +19,7 @@ use Rattle.slack_rows.specs.declared.parameter.Word.TheVariants.{Assert, From as
 use Rattle.slack_rows.specs.declared.slack.Reason.{Reason}
 use Rattle.slack_rows.specs.declared.slack.Slacks.{Slacks}
 use Rattle.slack_rows.specs.declared.slack.Told.{Told as Found}
-use Rattle.slack_rows.specs.Held.{IsLevelTold, TellDirections}
+use Rattle.slack_rows.specs.Held.{is_high_outside, IsLevelTold, TellDirections}
 use Rattle.slack_rows.specs.Limit.{steps_outside, told_net, told_never, told_outside, watch_net}
 use Rattle.slack_rows.specs.Slack.{told_of}
 use Rattle.slack_rows.specs.Views.{Tells, lesser_found, told_level_by}
@@ -43,12 +43,16 @@ directions_same p f found w wide s spec slacks found_is wide_is spec_is told =
     (subst (λ (x : Folds). TellDirections p f x (directions_of spec) slacks) wide_is
     (subst (λ (x : AssertSpec). TellDirections p f w (directions_of x) slacks) spec_is told))
 
+abbrev beyond : Folds → Folds → ℕ → Bool
+beyond f w t = is_high_outside (f t) (w t)
+
 level_same : (n p : ℕ) (f found w wide : Folds) (level : Option Reason) → n ≡ p → f ≡ found → w ≡ wide →
-    IsLevelTold level (steps_outside n f w) (first_excess n f w) → IsLevelTold level (steps_outside p found wide) (first_excess p found wide)
+    IsLevelTold (beyond f w) level (steps_outside n f w) (first_excess n f w) →
+    IsLevelTold (beyond found wide) level (steps_outside p found wide) (first_excess p found wide)
 level_same n p f found w wide level long found_is wide_is told =
-    subst (λ (m : ℕ). IsLevelTold level (steps_outside m found wide) (first_excess m found wide)) long
-    (subst (λ (x : Folds). IsLevelTold level (steps_outside n x wide) (first_excess n x wide)) found_is
-    (subst (λ (x : Folds). IsLevelTold level (steps_outside n f x) (first_excess n f x)) wide_is told))
+    subst (λ (m : ℕ). IsLevelTold (beyond found wide) level (steps_outside m found wide) (first_excess m found wide)) long
+    (subst (λ (x : Folds). IsLevelTold (beyond x wide) level (steps_outside n x wide) (first_excess n x wide)) found_is
+    (subst (λ (x : Folds). IsLevelTold (beyond f x) level (steps_outside n f x) (first_excess n f x)) wide_is told))
 
 -- the steps of a net, and its level beside them
 module _ (c : Circuit) (ws : Waves) (i : ℕ) (net : Net) where
@@ -62,14 +66,14 @@ module _ (c : Circuit) (ws : Waves) (i : ℕ) (net : Net) where
   wide = permitted c.header net.spec
 
   net_told : (steps all : Slacks) (level : Option Reason) → TellDirections p found wide (directions_of net.spec) steps →
-      IsLevelTold level (steps_outside p found wide) (first_excess p found wide) →
+      IsLevelTold (beyond found wide) level (steps_outside p found wide) (first_excess p found wide) →
       all.level ≡ lesser_found steps.level (told_level_by level) → all.before ≡ steps.before → all.after ≡ steps.after →
       (Tells p all.level (told_net c ws i net Assert)) × (Tells p all.before (told_net c ws i net StableFrom)) × (Tells p all.after (told_net c ws i net StableTo))
   net_told steps all level told told_level level_is before_is after_is = (
     with_outside p steps.level (told_level_by level) all.level
         (map (λ (d : Direction). told_of 0 d (told_never p (watch_net c ws i net d))) (directions_of net.spec))
         (told_outside (steps_outside p found wide) (first_excess p found wide)) level_is told.level
-        (level_told p level (steps_outside p found wide) (first_excess p found wide) told_level),
+        (level_told p (beyond found wide) level (steps_outside p found wide) (first_excess p found wide) told_level),
     subst (λ (o : Option Found). Tells p o (told_net c ws i net StableFrom)) (sym before_is) told.before,
     subst (λ (o : Option Found). Tells p o (told_net c ws i net StableTo)) (sym after_is) told.after,
   )

@@ -8,7 +8,10 @@ use Rattle.critical_paths.specs.declared.direction.Direction.TheVariants.{Rise, 
 use Rattle.critical_paths.specs.Event.{events}
 use Rattle.critical_paths.specs.Region.{some_event}
 use Rattle.critical_paths.specs.Views.{ticks_of_region}
-use Rattle.slack_rows.specs.Held.{IsInPeriod, launches_of, two_of, windows_about}
+use Rattle.critical_paths.specs.declared.region.Region.{Region as Ticked}
+use Rattle.slack_rows.specs.Slack.{is_met}
+use Rattle.slack_rows.specs.Views.{window_about, window_in}
+use Rattle.slack_rows.specs.Held.{AreOfWays, IsInPeriod, launches_of, two_of, windows_about}
 use Rattle.slack_rows.specs.Laws.{IsPlaced}
 use Rattle.slack_rows.specs.Limit.{edge_limits}
 use Rattle.slack_rows.specs.Watch.{may_stay_high, span_watch, spans}
@@ -16,7 +19,7 @@ use Rattle.slack_rows.specs.Window.{Window, about}
 use Rattle.slack_rows.proofs.Bounded.{spans_within}
 use Rattle.slack_rows.proofs.Cyclic.{read_again}
 use Rattle.slack_rows.proofs.Spans.{all_spans_placed}
-use Rattle.slack_rows.proofs.Watching.{changes_are, tell_watch, windows_are}
+use Rattle.slack_rows.proofs.Watching.{changes_are, met_edges, tell_watch, windows_are}
 use Rattle.slack_rows.proofs.watch.span_slacks.Goals as goal
 
 pub about_edges-requires-clause-edges : goal.about_edges-requires-clause-edges
@@ -57,3 +60,6 @@ returns-clause-told g c =
     (λ all. c.in_ok-found.ensures.told (events Change input)
     (changes_are p (events Change input) c.args.changes.now cyclic are (are.all ∙ all)) (are.all ∙ all)
     (subst (AllByRecursion (IsPlaced p)) (sym are_windows) (all_spans_placed p long clock clock again again c.args.limits most)))
+    (λ all. subst (λ (b : Bool). AreOfWays b c.in_ok-found.found)
+    (met_edges (λ (e : Ticked). window_in p (window_about e c.edge_limits.result)) c.as_slice-regions.result.now
+    ∙ ap (λ (ws : List Window). is_met ws false) are_windows) (c.in_ok-found.ensures.ways (are.all ∙ all)))

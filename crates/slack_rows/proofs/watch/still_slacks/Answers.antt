@@ -81,14 +81,14 @@ returns-then-still-clause-told g c =
     let told_is : told_of (place_in held) d (told_alone NoNumber) ≡ told_by_found p told =
     (λ i. record {
       slack = NoNumber;
-      place = sym c.never_still.ensures i;
+      place = sym c.never_still.ensures.place i;
       pin = sym c.place_of.ensures i;
       direction = d;
     }) in
     λ ev quiet cyclic still are are_quiet.
     parts_never p long ev quiet cyclic still (launches_of circuit ws held) (two_of circuit ws held) (place_in held) d
     c.level.result (no_last_way circuit ws held) (no_first_way circuit ws held) told (sym are_quiet.all ∙ c.if-still.true)
-    (some_of p ev changes long cyclic are (sym c.are_none-is_free.ensures ∙ c.if-is_free.false)) told_is c.level.ensures
+    (some_of p ev changes long cyclic are (sym c.are_none-is_free.ensures ∙ c.if-is_free.false)) record { is = told_is; near = tt } c.level.ensures
 
 pub returns-then-changes-clause-told : goal.returns-then-changes-clause-told
 returns-then-changes-clause-told g c =
@@ -108,7 +108,7 @@ returns-then-changes-clause-told g c =
     c.none.result (no_last_way circuit ws held) (no_first_way circuit ws held) told (sym are_quiet.all ∙ c.if-still.false)
     (λ none. some_parts slots.are_all (length slots.regions) (sym c.are_none-is_unmet.ensures ∙ c.if-is_unmet.false) c.if-still.false
     (ap length are_quiet.regions ∙ ap (λ (rs : List Region). length (map ticks_of_region rs)) none))
-    (sym are.all ∙ c.if-changes.true) told_is c.none.ensures
+    (sym are.all ∙ c.if-changes.true) record { is = told_is; near = tt } c.none.ensures
 
 pub about_all-requires-clause-limits : goal.about_all-requires-clause-limits
 about_all-requires-clause-limits g c =

@@ -9,11 +9,11 @@ use Rattle.skew_algebra.specs.Wave.{Wave}
 use Rattle.fixpoint_engine.specs.Pins.{read}
 use Rattle.fixpoint_engine.specs.Waves.{pin_wave, waves_of}
 use Rattle.fixpoint_engine.proofs.Fits.{long_pin}
-use Rattle.slack_rows.specs.declared.slack.By.TheVariants.{Pulse as ByPulse, Repeated}
+use Rattle.slack_rows.specs.declared.slack.By.TheVariants.{Pulse as ByPulse, Repeated, Swallowed}
 use Rattle.slack_rows.specs.Limit.{begin_of}
 use Rattle.slack_rows.specs.Pulse.{Pulse, left_at, may_change_again, narrowest, told_wave}
 use Rattle.slack_rows.specs.Slack.{told_of}
-use Rattle.slack_rows.proofs.Breadths.{tells_swallowed, tells_whole, width_left, width_none, width_repeated, width_whole}
+use Rattle.slack_rows.proofs.Breadths.{told_near, tells_swallowed, tells_whole, width_left, width_none, width_repeated, width_whole}
 use Rattle.slack_rows.proofs.width.width.Goals as goal
 
 pub returns-in_default : goal.returns-in_default
@@ -55,11 +55,12 @@ returns-then-is_repeated g c =
     let last = c.ticks-window.ensures.last in
     let ends : c.ticks-window.result.last ≡ c.ticks-window.result.first +ℤ pos pulse.1 =
     omega (arith, ints, first, last, c.from.ensures, c.from-2.ensures) in
-    ap (λ (o : Option Pulse). told_of 0 (begin_of level) (told_wave limit left wave o)) found
+    told_near p c.told-repeated.result _ Repeated c.told-repeated.ensures.way tt
+    (ap (λ (o : Option Pulse). told_of 0 (begin_of level) (told_wave limit left wave o)) found
     ∙ tells_whole p (begin_of level) limit pulse c.told-repeated.result c.ticks-window.result
     c.told-repeated.ensures.slack c.told-repeated.ensures.window c.told-repeated.ensures.pin c.told-repeated.ensures.direction
     c.told-repeated.ensures.tick (pos pulse.1) ends wave left Repeated c.told-repeated.ensures.way refl
-    (width_repeated pulse limit (may_change_again wave pulse) left (sym again ∙ c.if-is_repeated.true)) refl
+    (width_repeated pulse limit (may_change_again wave pulse) left (sym again ∙ c.if-is_repeated.true)) refl)
 
 pub returns-then-not-may_vanish : goal.returns-then-not-may_vanish
 returns-then-not-may_vanish g c =
@@ -83,12 +84,13 @@ returns-then-not-may_vanish g c =
     let last = c.ticks-window.ensures.last in
     let ends : c.ticks-window.result.last ≡ c.ticks-window.result.first +ℤ pos pulse.1 =
     omega (arith, ints, first, last, c.from.ensures, c.from-2.ensures) in
-    ap (λ (o : Option Pulse). told_of 0 (begin_of level) (told_wave limit left wave o)) found
+    told_near p c.told-wide.result _ ByPulse c.told-wide.ensures.way tt
+    (ap (λ (o : Option Pulse). told_of 0 (begin_of level) (told_wave limit left wave o)) found
     ∙ tells_whole p (begin_of level) limit pulse c.told-wide.result c.ticks-window.result
     c.told-wide.ensures.slack c.told-wide.ensures.window c.told-wide.ensures.pin c.told-wide.ensures.direction
     c.told-wide.ensures.tick (pos pulse.1) ends wave left ByPulse c.told-wide.ensures.way refl
     (width_whole pulse limit (may_change_again wave pulse) left
-    (sym c.may_vanish.ensures ∙ c.if-not-may_vanish.true)) refl
+    (sym c.may_vanish.ensures ∙ c.if-not-may_vanish.true)) refl)
 
 pub returns-in-None : goal.returns-in-None
 returns-in-None g c =
@@ -112,12 +114,13 @@ returns-in-None g c =
     let last = c.ticks-window.ensures.last in
     let ends : c.ticks-window.result.last ≡ c.ticks-window.result.first +ℤ pos pulse.1 =
     omega (arith, ints, first, last, c.from.ensures, c.from-2.ensures) in
-    ap (λ (o : Option Pulse). told_of 0 (begin_of level) (told_wave limit left wave o)) found
+    told_near p c.told-kept.result _ ByPulse c.told-kept.ensures.way tt
+    (ap (λ (o : Option Pulse). told_of 0 (begin_of level) (told_wave limit left wave o)) found
     ∙ tells_whole p (begin_of level) limit pulse c.told-kept.result c.ticks-window.result
     c.told-kept.ensures.slack c.told-kept.ensures.window c.told-kept.ensures.pin c.told-kept.ensures.direction
     c.told-kept.ensures.tick (pos pulse.1) ends wave left ByPulse c.told-kept.ensures.way refl
     (width_none pulse limit (may_change_again wave pulse) left
-    (sym c.in_ok-swallowed.ensures.left ∙ ap (option_map (λ left. left.1)) c.in-None.is)) refl
+    (sym c.in_ok-swallowed.ensures.left ∙ ap (option_map (λ left. left.1)) c.in-None.is)) refl)
 
 pub returns : goal.returns
 returns g c =
@@ -145,9 +148,10 @@ returns g c =
     let narrow : ((pulse.1 == 1) && nat_lt 1 limit) ≡ true = sym c.may_vanish.ensures ∙ c.if-not-may_vanish.false in
     let one : pulse.1 ≡ 1 = eqb-true pulse.1 1 (and_parts (pulse.1 == 1) (nat_lt 1 limit) narrow).0 in
     let is : option_map (λ left. left.1) c.in_ok-swallowed.field-0 ≡ Some n = search rules in
-    ap (λ (o : Option Pulse). told_of 0 (begin_of level) (told_wave limit left wave o)) found
+    told_near p c.told-gone.result _ Swallowed c.told-gone.ensures.way tt
+    (ap (λ (o : Option Pulse). told_of 0 (begin_of level) (told_wave limit left wave o)) found
     ∙ tells_swallowed p (begin_of level) limit pulse c.told-gone.result c.ticks-rest.result
     c.told-gone.ensures.slack c.told-gone.ensures.window c.told-gone.ensures.pin c.told-gone.ensures.direction
     c.told-gone.ensures.tick n ends wave left c.told-gone.ensures.way one
     (width_left pulse limit (may_change_again wave pulse) left n (sym again ∙ c.if-is_repeated.false)
-    (sym c.in_ok-swallowed.ensures.left ∙ is) narrow)
+    (sym c.in_ok-swallowed.ensures.left ∙ is) narrow))

@@ -1,12 +1,13 @@
-use Rattle.std.proofs.Common.{◌+◌}
 use Rattle.step_values.specs.StepSet.{in_set}
-use Rattle.critical_paths.specs.Cause.{mux}
 use Rattle.critical_paths.specs.Views.{chosen}
 use Rattle.critical_paths.proofs.Making.{latch_rs_made}
 use Rattle.critical_paths.proofs.image.Choice.latch_rs.Goals as goal
 
 pub returns : goal.returns
 returns c =
-    let s = chosen c.args.self.values.now c.args.self.pin c.args.self.step.before c.args.self.step.after in
-    latch_rs_made (in_set c.made.result) (in_set c.steps-enable.result) (in_set c.steps-input.result) (in_set c.steps-set.result) (in_set c.steps-reset.result)
-    (s 0) (s 1) (s 2) (s 3) c.made.ensures c.steps-enable.ensures c.steps-input.ensures c.steps-set.ensures c.steps-reset.ensures
+    let s = chosen c.args.self.values.now c.args.self.pin c.args.self.step.before
+    c.args.self.step.after in
+    latch_rs_made (in_set c.made.result) (in_set c.steps-enable.result)
+    (in_set c.steps-input.result) (in_set c.steps-set.result) (in_set c.steps-reset.result)
+    (s 0) (s 1) (s 2) (s 3) c.made.ensures c.steps-enable.ensures c.steps-input.ensures
+    c.steps-set.ensures c.steps-reset.ensures

@@ -6,7 +6,8 @@ use Rattle.critical_paths.proofs.path.Paths.link.Given as goal
 abbrev pub invariant-loop-back : goal.invariant-loop-back
 invariant-loop-back g l =
     record {
-      begun : IsBegun l.view.circuit.now (waves_of l.view.waves.now) l.self.nodes l.self.met.entries l.chain.entries l.fn.stop
+      begun : IsBegun l.view.circuit.now (waves_of l.view.waves.now) l.self.nodes l.self.met.entries
+          l.chain.entries l.fn.stop
           (l.number, l.past - l.back);
       grows : Grows l.fn.self.nodes l.self.nodes;
     }

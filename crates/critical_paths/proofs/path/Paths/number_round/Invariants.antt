@@ -6,5 +6,6 @@ abbrev pub invariant-loop-place : goal.invariant-loop-place
 invariant-loop-place l =
     record {
       nodes : l.self.nodes ≡ l.fn.self.nodes;
-      met : IsNumbered l.fn.self.met.entries l.chain.entries l.first l.base l.place l.self.met.entries;
+      met : IsNumbered l.fn.self.met.entries l.chain.entries l.first l.base l.place
+          l.self.met.entries;
     }

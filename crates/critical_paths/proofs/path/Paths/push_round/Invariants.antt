@@ -1,4 +1,4 @@
-use Rattle.std.proofs.Common.{◌≡◌, length}
+use Rattle.std.proofs.Common.{◌≡◌}
 use Rattle.critical_paths.specs.Told.{IsRound}
 use Rattle.critical_paths.proofs.path.Paths.push_round.Given as goal
 

@@ -1,15 +1,10 @@
-use Rattle.std.proofs.Common.{◌≡◌, ℕ, ◌-◌, ◌*◌, ◌≤◌, List, length, drop, ap, sym, subst, arith, rules, ◌∙◌, ℤ, FitsSigned, to_z, of_z, w64}
+use Rattle.std.proofs.Common.{ℕ, List, length, ap, sym, subst, arith, rules, ℤ, FitsSigned, w64}
 use Rattle.std.proofs.lemmas.Int.{to_z-of_z}
 use Rattle.std.proofs.lemmas.Option.{slice_get_within}
-use Rattle.flat_circuit.specs.Circuit.{Circuit}
 use Rattle.critical_paths.specs.declared.event.Stop.{Stop}
 use Rattle.critical_paths.specs.declared.path.Node.{Node}
-use Rattle.critical_paths.specs.declared.path.Passage.{Passage}
-use Rattle.critical_paths.specs.declared.path.Halt.{Halt}
-use Rattle.critical_paths.specs.declared.path.Halt.TheVariants.{Known, Passed, Ends}
 use Rattle.fixpoint_engine.specs.Waves.{waves_of}
-use Rattle.critical_paths.specs.Told.{IsBegun, IsHalt, IsNumbered, IsRound, IsSmall}
-use Rattle.critical_paths.specs.Walk.{stop_count}
+use Rattle.critical_paths.specs.Told.{IsBegun, IsHalt, IsNumbered, IsRound}
 use Rattle.critical_paths.proofs.Settles.{begin_end_at, begin_known, small_circuit, small_stops}
 use Rattle.critical_paths.proofs.Turning.{begin_round}
 use Rattle.critical_paths.proofs.Walks.{chain_short}

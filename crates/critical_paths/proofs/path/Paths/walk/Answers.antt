@@ -1,7 +1,6 @@
-use Rattle.std.proofs.Common.{◌≡◌, ℕ, ◌+◌, ◌++◌, ◌∷◌, [], List, length, Option, None, MatchOption, false, is_some, refl, sym, ap, subst, ◌∙◌, arith}
+use Rattle.std.proofs.Common.{◌≡◌, ℕ, ◌+◌, ◌++◌, ◌∷◌, [], List, length, Option, None, MatchOption, false, is_some, sym, ap, subst, ◌∙◌, arith}
 use Rattle.critical_paths.specs.declared.event.Stop.{Stop}
 use Rattle.critical_paths.specs.declared.path.Passage.{Passage}
-use Rattle.critical_paths.specs.declared.path.Origin.{Origin}
 use Rattle.fixpoint_engine.specs.Waves.{waves_of}
 use Rattle.critical_paths.specs.Told.{Has, LeadsWithin, Walked, are_met}
 use Rattle.critical_paths.proofs.Stops.{stop_turned}

@@ -1,4 +1,4 @@
-use Rattle.std.proofs.Common.{◌≡◌, ℕ, ◌<◌, Bool, ap, ◌∙◌, arith, ℤ, pos, ◌-ℤ◌, to_z, of_z, w64}
+use Rattle.std.proofs.Common.{◌≡◌, ◌<◌, Bool, ap, ◌∙◌, arith, pos, ◌-ℤ◌, to_z, of_z, w64}
 use Rattle.std.proofs.lemmas.Int.{ints}
 use Rattle.scald_base.specs.Clock.{back, ideal}
 use Rattle.scald_base.specs.Time.{Header, period}
@@ -20,13 +20,15 @@ returns g c =
     let inside = c.slot-2.ensures.within in
     let some : 0 < p = omega (arith, inside) in
     let same : to_z w64 (of_z w64 tick) ≡ tick = omega (arith, ints, near) in
-    let less : to_z w64 (of_z w64 (to_z w64 (of_z w64 tick) -ℤ pos 1)) ≡ tick -ℤ pos 1 = omega (arith, ints, near) in
+    let less : to_z w64 (of_z w64 (to_z w64 (of_z w64 tick) -ℤ pos 1))
+    ≡ tick -ℤ pos 1 = omega (arith, ints, near) in
     let before : c.ideal-before.result ≡ ideal clock h (back p (slot_of p tick) 1) =
     c.ideal-before.ensures ∙ ap (λ (x : Header). ideal clock x c.slot.result) c.header-h.ensures
     ∙ ap (ideal clock h) (c.slot.ensures.is ∙ ap (slot_of p) less ∙ slot_back p 1 tick some) in
     let after : c.ideal-after.result ≡ ideal clock h (slot_of p tick) =
     c.ideal-after.ensures ∙ ap (λ (x : Header). ideal clock x c.slot-2.result) c.header-h.ensures
     ∙ ap (ideal clock h) (c.slot-2.ensures.is ∙ ap (slot_of p) same) in
-    c.is_among.ensures ∙ moves_same d _ (one_step c.ideal-before.result c.ideal-after.result) c.one_if.ensures
+    c.is_among.ensures ∙ moves_same d _ (one_step c.ideal-before.result c.ideal-after.result)
+    c.one_if.ensures
     ∙ ap (λ (x : Bool). moves d (one_step x c.ideal-after.result)) before
     ∙ ap (λ (x : Bool). moves d (one_step (ideal clock h (back p (slot_of p tick) 1)) x)) after

@@ -9,4 +9,5 @@ pub returns-in-Constant : goal.returns-in-Constant
 returns-in-Constant g c =
     let h = c.args.self.now.circuit.now.header in
     constant_steady h c.in-Constant.field-0
-    ∙ ap (λ t. is_steady values (target_wave h (waves_of c.args.self.now.waves.now) t).cells) (sym c.in-Constant.is)
+    ∙ ap (λ t. is_steady values (target_wave h (waves_of c.args.self.now.waves.now) t).cells)
+    (sym c.in-Constant.is)

@@ -15,12 +15,13 @@ pub trace-requires-clause-stop : goal.trace-requires-clause-stop
 trace-requires-clause-stop g c =
     let circuit = c.args.self.now.circuit.now in
     let event = c.args.event in
-    let within = c.stop.ensures.within in
+    let within = c.stop_at.ensures.within in
     let some : 0 < period circuit.header = omega (arith, within) in
-    subst (λ (s : Stop). IsStop circuit s.corner s) (sym c.stop.ensures.is)
+    subst (λ (s : Stop). IsStop circuit s.corner s) (sym c.stop_at.ensures.is)
     (stop_there circuit (waves_of c.args.self.now.waves.now) some event.corner event.reading
     (event_of (period circuit.header) event)
-    c.requires.net (subst (λ (s : Stop). s.slot < period circuit.header) c.stop.ensures.is within))
+    c.requires.net (subst (λ (s : Stop). s.slot < period circuit.header) c.stop_at.ensures.is
+    within))
 
 pub returns-clause-short : goal.returns-clause-short
 returns-clause-short g c =
@@ -34,7 +35,7 @@ returns-clause-short g c =
     } in
     let same : to_z w64 (of_z w64 tick) ≡ tick = omega (arith, ints) in
     λ near. known_short circuit (waves_of c.args.self.now.waves.now) c.trace.new.self.nodes
-    c.trace.new.self.met.entries c.stop.result at
+    c.trace.new.self.met.entries c.stop_at.result at
     (small_circuit circuit p.result p.ensures.is p.ensures.shortest p.ensures.longest
     c.requires.sees.circuit.few_nets)
     c.in_ok-trace.ensures.knows c.in_ok-trace.ensures.has (subst (IsNear (2 ^ 60)) (sym same) near)
@@ -49,16 +50,16 @@ returns-clause-edge g c =
       tick = to_z w64 (of_z w64 event.tick);
       wire = 0;
     } in
-    let within = c.stop.ensures.within in
+    let within = c.stop_at.ensures.within in
     let some : 0 < period circuit.header = omega (arith, within) in
     let own = event_of (period circuit.header) event in
-    let stop : IsStop circuit event.corner c.stop.result =
-    subst (IsStop circuit event.corner) (sym c.stop.ensures.is)
+    let stop : IsStop circuit event.corner c.stop_at.result =
+    subst (IsStop circuit event.corner) (sym c.stop_at.ensures.is)
     (stop_there circuit ws some event.corner event.reading own c.requires.net
-    (subst (λ (s : Stop). s.slot < period circuit.header) c.stop.ensures.is within)) in
+    (subst (λ (s : Stop). s.slot < period circuit.header) c.stop_at.ensures.is within)) in
     let is = c.requires.sees.circuit in
     λ folded. known_edge circuit ws is some event.corner c.trace.new.self.nodes
-    c.trace.new.self.met.entries c.stop.result at
+    c.trace.new.self.met.entries c.stop_at.result at
     c.in_ok-trace.ensures.knows c.in_ok-trace.ensures.has stop
-    (ap (λ (s : Stop). s.reading) c.stop.ensures.is ∙ reads_folds circuit ws is some event.corner
+    (ap (λ (s : Stop). s.reading) c.stop_at.ensures.is ∙ reads_folds circuit ws is some event.corner
     event.reading own folded)

@@ -28,12 +28,16 @@ returns-then-is_edge-clause-is g c =
     let is : after ≡ offset c.args.corner (skew_of clock skew).0 (skew_of clock skew).1 =
     elim c.match-corner.branch [
       | in-Late w ↦
-          let late : after ≡ pos c.unwrap_or-early.result.1 = omega (arith, ints, w.after-is, w.from-after.ensures, w.from-after.type_inv) in
-          subst (λ (k : Corner). after ≡ offset k (skew_of clock skew).0 (skew_of clock skew).1) (sym w.in-Late.is)
+          let late : after ≡ pos c.unwrap_or-early.result.1 = omega
+          (arith, ints, w.after-is, w.from-after.ensures, w.from-after.type_inv) in
+          subst (λ (k : Corner). after ≡ offset k (skew_of clock skew).0 (skew_of clock skew).1)
+          (sym w.in-Late.is)
           (late ∙ ap (λ (s : ℕ × ℕ). pos s.1) c.unwrap_or-early.ensures)
       | in-Early w ↦
-          let early : after ≡ neg_ℤ (pos c.unwrap_or-early.result.0) = omega (arith, ints, w.after-is, w.from.ensures, w.from.type_inv) in
-          subst (λ (k : Corner). after ≡ offset k (skew_of clock skew).0 (skew_of clock skew).1) (sym w.in-Early.is)
+          let early : after ≡ neg_ℤ (pos c.unwrap_or-early.result.0) = omega
+          (arith, ints, w.after-is, w.from.ensures, w.from.type_inv) in
+          subst (λ (k : Corner). after ≡ offset k (skew_of clock skew).0 (skew_of clock skew).1)
+          (sym w.in-Early.is)
           (early ∙ ap (λ (s : ℕ × ℕ). neg_ℤ (pos s.0)) c.unwrap_or-early.ensures)
     ] in
     let near : IsNear 65535 after =
@@ -42,12 +46,22 @@ returns-then-is_edge-clause-is g c =
         low = omega (arith, ints, w.after-is, w.from-after.ensures);
         high = omega (arith, ints, w.after-is, w.from-after.ensures);
       }
-      | in-Early w ↦ record { low = omega (arith, ints, w.after-is, w.from.ensures); high = omega (arith, ints, w.after-is, w.from.ensures) }
+      | in-Early w ↦ record {
+        low = omega (arith, ints, w.after-is, w.from.ensures);
+        high = omega (arith, ints, w.after-is, w.from.ensures);
+      }
     ] in
-    let at : to_z w64 (of_z w64 (to_z w64 (of_z w64 c.from-2.result) -ℤ after)) ≡ pos slot -ℤ after =
-    sooner slot c.from-2.result after (omega (arith, below, c.period-period.ensures.is, c.period-period.ensures.longest)) c.from-2.ensures near in
+    let at : to_z w64 (of_z w64 (to_z w64 (of_z w64 c.from-2.result) -ℤ after))
+    ≡ pos slot -ℤ after =
+    sooner slot c.from-2.result after (omega (
+      arith,
+      below,
+      c.period-period.ensures.is,
+      c.period-period.ensures.longest,
+    )) c.from-2.ensures near in
     offset_found h c.args.corner c.args.stop.direction slot clock skew after
-    (to_z w64 (of_z w64 (to_z w64 (of_z w64 c.from-2.result) -ℤ after))) true some is at (sym c.if-is_edge.true ∙ c.is_edge.ensures)
+    (to_z w64 (of_z w64 (to_z w64 (of_z w64 c.from-2.result) -ℤ after))) true some is at
+    (sym c.if-is_edge.true ∙ c.is_edge.ensures)
 
 pub returns-else-is_edge-clause-is : goal.returns-else-is_edge-clause-is
 returns-else-is_edge-clause-is g c =
@@ -61,12 +75,16 @@ returns-else-is_edge-clause-is g c =
     let is : after ≡ offset c.args.corner (skew_of clock skew).0 (skew_of clock skew).1 =
     elim c.match-corner.branch [
       | in-Late w ↦
-          let late : after ≡ pos c.unwrap_or-early.result.1 = omega (arith, ints, w.after-is, w.from-after.ensures, w.from-after.type_inv) in
-          subst (λ (k : Corner). after ≡ offset k (skew_of clock skew).0 (skew_of clock skew).1) (sym w.in-Late.is)
+          let late : after ≡ pos c.unwrap_or-early.result.1 = omega
+          (arith, ints, w.after-is, w.from-after.ensures, w.from-after.type_inv) in
+          subst (λ (k : Corner). after ≡ offset k (skew_of clock skew).0 (skew_of clock skew).1)
+          (sym w.in-Late.is)
           (late ∙ ap (λ (s : ℕ × ℕ). pos s.1) c.unwrap_or-early.ensures)
       | in-Early w ↦
-          let early : after ≡ neg_ℤ (pos c.unwrap_or-early.result.0) = omega (arith, ints, w.after-is, w.from.ensures, w.from.type_inv) in
-          subst (λ (k : Corner). after ≡ offset k (skew_of clock skew).0 (skew_of clock skew).1) (sym w.in-Early.is)
+          let early : after ≡ neg_ℤ (pos c.unwrap_or-early.result.0) = omega
+          (arith, ints, w.after-is, w.from.ensures, w.from.type_inv) in
+          subst (λ (k : Corner). after ≡ offset k (skew_of clock skew).0 (skew_of clock skew).1)
+          (sym w.in-Early.is)
           (early ∙ ap (λ (s : ℕ × ℕ). neg_ℤ (pos s.0)) c.unwrap_or-early.ensures)
     ] in
     let near : IsNear 65535 after =
@@ -75,9 +93,19 @@ returns-else-is_edge-clause-is g c =
         low = omega (arith, ints, w.after-is, w.from-after.ensures);
         high = omega (arith, ints, w.after-is, w.from-after.ensures);
       }
-      | in-Early w ↦ record { low = omega (arith, ints, w.after-is, w.from.ensures); high = omega (arith, ints, w.after-is, w.from.ensures) }
+      | in-Early w ↦ record {
+        low = omega (arith, ints, w.after-is, w.from.ensures);
+        high = omega (arith, ints, w.after-is, w.from.ensures);
+      }
     ] in
-    let at : to_z w64 (of_z w64 (to_z w64 (of_z w64 c.from-2.result) -ℤ after)) ≡ pos slot -ℤ after =
-    sooner slot c.from-2.result after (omega (arith, below, c.period-period.ensures.is, c.period-period.ensures.longest)) c.from-2.ensures near in
+    let at : to_z w64 (of_z w64 (to_z w64 (of_z w64 c.from-2.result) -ℤ after))
+    ≡ pos slot -ℤ after =
+    sooner slot c.from-2.result after (omega (
+      arith,
+      below,
+      c.period-period.ensures.is,
+      c.period-period.ensures.longest,
+    )) c.from-2.ensures near in
     offset_found h c.args.corner c.args.stop.direction slot clock skew after
-    (to_z w64 (of_z w64 (to_z w64 (of_z w64 c.from-2.result) -ℤ after))) false some is at (sym c.if-is_edge.false ∙ c.is_edge.ensures)
+    (to_z w64 (of_z w64 (to_z w64 (of_z w64 c.from-2.result) -ℤ after))) false some is at
+    (sym c.if-is_edge.false ∙ c.is_edge.ensures)

@@ -22,4 +22,4 @@ returns-clause-within g c =
     (Earlier back.passage c.stop_at-earlier.result)
     (from_earlier circuit ws stop number element at there back c.stop_at-earlier.result
     (sym (ap (option_map (read_of (period circuit.header))) c.in-Some-2.is) ∙ c.in_ok-back.ensures)
-    c.stop_at-earlier.ensures)
+    c.stop_at-earlier.ensures.is)

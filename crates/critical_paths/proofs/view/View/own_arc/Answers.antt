@@ -1,4 +1,4 @@
-use Rattle.std.proofs.Common.{◌-◌, ◌<◌, ◌≤◌, sym, subst, ◌∙◌, arith}
+use Rattle.std.proofs.Common.{◌<◌, ◌≤◌, sym, subst, ◌∙◌, arith}
 use Rattle.scald_base.specs.Time.{IsHeader, period}
 use Rattle.fixpoint_engine.specs.Waves.{waves_of}
 use Rattle.critical_paths.specs.Path.{choices}

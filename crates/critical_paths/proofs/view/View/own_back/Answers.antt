@@ -1,4 +1,4 @@
-use Rattle.std.proofs.Common.{◌≡◌, ◌-◌, ◌<◌, ◌≤◌, pos, ◌-ℤ◌, to_z, of_z, w64, sym, ap, subst, ◌∙◌, arith}
+use Rattle.std.proofs.Common.{◌≡◌, ◌<◌, ◌≤◌, pos, ◌-ℤ◌, to_z, of_z, w64, sym, ap, subst, ◌∙◌, arith}
 use Rattle.std.specs.Option.{option_and_then, option_map}
 use Rattle.std.proofs.lemmas.Int.{ints}
 use Rattle.scald_base.specs.Time.{Bounds, IsHeader, period}

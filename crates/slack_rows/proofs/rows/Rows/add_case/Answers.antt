@@ -1,15 +1,33 @@
-use Rattle.std.proofs.Common.{◌≡◌, ℕ, ◌+◌, ◌<◌, ◌≤◌, ◌++◌, ◌∷◌, [], List, Option, length, ap, sym, subst, ◌∙◌, arith, slice_index_or}
-use Rattle.std.specs.Prelude.{slice_get}
-use Rattle.std.proofs.lemmas.List.{length-map}
+use Rattle.std.proofs.Common.{◌≡◌, ℕ, ◌+◌, ◌<◌, ◌≤◌, ◌++◌, ◌∷◌, [], List, Option, length, ap, sym, subst, ◌∙◌, arith, rules, slice_index_or}
+use Rattle.std.specs.Prelude.{◌&&◌, ◌||◌, is_none, slice_get}
+use Rattle.std.proofs.lemmas.List.{length-map, length-set}
 use Rattle.fixpoint_engine.specs.Waves.{waves_of}
 use Rattle.slack_rows.specs.declared.parameter.Parameter.{Parameter}
 use Rattle.slack_rows.specs.declared.rows.Least.{Least}
-use Rattle.slack_rows.specs.Known.{AreKnown}
+use Rattle.slack_rows.specs.declared.slack.Told.{Told as Found}
+use Rattle.slack_rows.specs.Slack.{is_broken}
+use Rattle.slack_rows.specs.Views.{slack_told}
+use Rattle.slack_rows.specs.Known.{AreKnown, breaks}
 use Rattle.slack_rows.specs.Limit.{Case}
 use Rattle.slack_rows.proofs.Keeping.{tells_now}
 use Rattle.slack_rows.proofs.Levels.{read_at}
-use Rattle.slack_rows.proofs.Stepwise.{passed_all, passed_more}
+use Rattle.slack_rows.proofs.Sided.{alike_begin, alike_end, alike_more, lowered_breaks, lowered_free}
+use Rattle.slack_rows.proofs.Stepwise.{passed_all, passed_more, passed_none}
 use Rattle.slack_rows.proofs.rows.Rows.add_case.Goals as goal
+
+pub loop-place-init : goal.loop-place-init
+loop-place-init g c =
+    let circuit = c.args.view.now.circuit.now in
+    record {
+      parameters = search rules;
+      cases = search rules;
+      knows = search rules;
+      slacks = tt;
+      passed = λ cases one waves known. passed_none circuit cases one c.args.self.now.parameters c.args.self.now.least c.args.self.now.cases
+          c.args.self.now.sets.keys known;
+      alike = λ cases one waves known are. alike_begin circuit cases one c.args.self.now.parameters are c.args.self.now.least c.args.self.now.cases
+          c.args.self.now.sets.keys _ known;
+    }
 
 pub loop-place-preserved : goal.loop-place-preserved
 loop-place-preserved g c =
@@ -48,6 +66,13 @@ loop-place-preserved g c =
           (tells_now circuit ws one c.in_ok-slacks.slacks limits place _ c.of.result c.of.ensures known.are_limits here waves
           c.in_ok-slacks.ensures.told)
           c.in_ok-least.ensures.least (kept.passed cases one waves known));
+      alike = λ cases one waves known are.
+          alike_more circuit cases one limits are least c.set.new.self place _ _ c.in_ok-least.least c.loop-place.subject c.loop-place.slacks
+          c.in_ok-slacks.slacks ws here now c.set.ensures (ap (λ (xs : List (Option Least)). length xs) c.set.ensures ∙ length-set least place c.in_ok-least.least)
+          (kept.alike cases one waves known are) c.in_ok-slacks.ensures.same waves c.in_ok-slacks.ensures.told
+          c.of.result c.of.ensures
+          (lowered_breaks c.loop-place.self.sets.keys c.lowered.new.sets.keys _ c.in_ok-least.least c.of.result c.len-case.result c.in_ok-least.ensures.least)
+          (lowered_free c.loop-place.self.sets.keys c.lowered.new.sets.keys _ c.in_ok-least.least c.of.result c.len-case.result c.in_ok-least.ensures.least);
     }
 
 pub returns : goal.returns
@@ -62,4 +87,6 @@ returns g c = λ cases one number waves known.
     c.push.new.self (omega (arith, long, past)) known.are_numbers
     (c.in_ok-push.ensures.ok ∙ ap (λ (xs : List ℕ). xs ++ c.args.number ∷ []) c.loop-place.invariant.cases
     ∙ ap (λ (n : ℕ). c.args.self.now.cases ++ n ∷ []) (sym number))
-    (c.loop-place.invariant.passed cases one waves known))
+    (c.loop-place.invariant.passed cases one waves known)
+    (alike_end circuit cases one limits known.are_limits c.loop-place.self.least c.loop-place.place c.loop-place.subject c.loop-place.slacks
+    (omega (arith, long, past)) (c.loop-place.invariant.alike cases one waves known known.are_limits)))

@@ -3,6 +3,8 @@ use Rattle.fixpoint_engine.specs.Waves.{waves_of}
 use Rattle.critical_paths.specs.Told.{Knows}
 use Rattle.slack_rows.specs.Known.{AreKnown, SlacksKnown}
 use Rattle.slack_rows.specs.Limit.{Case}
+use Rattle.slack_rows.specs.Rows.{all_limits}
+use Rattle.slack_rows.proofs.Sided.{PassedAlike}
 use Rattle.slack_rows.proofs.Stepwise.{Passed}
 use Rattle.slack_rows.proofs.rows.Rows.add_case.Given as goal
 
@@ -17,4 +19,8 @@ invariant-loop-place g l =
       passed : (cases : List Case) (one : Case) → one.waves ≡ waves_of l.view.waves.now →
           AreKnown l.view.circuit.now cases l.fn.self.parameters l.fn.self.least l.fn.self.cases l.fn.self.sets.keys →
           Passed l.view.circuit.now cases one l.fn.self.parameters l.self.least l.self.sets.keys l.place;
+      alike : (cases : List Case) (one : Case) → one.waves ≡ waves_of l.view.waves.now →
+          AreKnown l.view.circuit.now cases l.fn.self.parameters l.fn.self.least l.fn.self.cases l.fn.self.sets.keys →
+          (are : l.fn.self.parameters ≡ all_limits l.view.circuit.now) →
+          PassedAlike l.view.circuit.now cases one l.fn.self.parameters are l.self.least l.place l.subject l.slacks;
     }

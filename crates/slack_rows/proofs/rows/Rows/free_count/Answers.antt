@@ -25,25 +25,25 @@ loop-place-preserved c =
           let is = w.count-is in
           record {
             few = omega (arith, few, is);
-            free = λ circuit cases known sure. free_more circuit (forms circuit) cases limits least c.args.self.now.cases
-                c.args.self.now.sets.keys known sure place count c.if-is_free.count true found.0 found.1 (sym w.if-is_free.true ∙ same)
-                (c.loop-place.invariant.free circuit cases known sure) w.count-is;
+            free = λ circuit cases known. free_more circuit (forms circuit) cases limits least c.args.self.now.cases
+                c.args.self.now.sets.keys known place count c.if-is_free.count true found.0 found.1 (sym w.if-is_free.true ∙ same)
+                (c.loop-place.invariant.free circuit cases known) w.count-is;
           }
       | else-is_free w ↦
           let is = w.count-is in
           record {
             few = omega (arith, few, is);
-            free = λ circuit cases known sure. free_more circuit (forms circuit) cases limits least c.args.self.now.cases
-                c.args.self.now.sets.keys known sure place count c.if-is_free.count false found.0 found.1 (sym w.if-is_free.false ∙ same)
-                (c.loop-place.invariant.free circuit cases known sure) (omega (arith, is));
+            free = λ circuit cases known. free_more circuit (forms circuit) cases limits least c.args.self.now.cases
+                c.args.self.now.sets.keys known place count c.if-is_free.count false found.0 found.1 (sym w.if-is_free.false ∙ same)
+                (c.loop-place.invariant.free circuit cases known) (omega (arith, is));
           }
     ]
 
 pub returns : goal.returns
-returns c = λ circuit cases known sure.
+returns c = λ circuit cases known.
     let long = c.len-place-end.ensures in
     let past = c.loop-place-test.false in
-    c.loop-place.invariant.free circuit cases known sure
+    c.loop-place.invariant.free circuit cases known
     ∙ ap (count_by (λ (q : Parameter). is_free_limit circuit cases (row circuit cases q.subject q.word)))
     (take_all c.loop-place.place c.args.self.now.parameters (omega (arith, long, past)))
     ∙ ap (count_by (λ (q : Parameter). is_free_limit circuit cases (row circuit cases q.subject q.word))) known.are_limits

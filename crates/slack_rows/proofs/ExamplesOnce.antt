@@ -1,0 +1,166 @@
+-- Limits that are told once, sides by launch, and two launches, worked out on paper.
+use Rattle.std.specs.Prelude.{◌≡◌, ℕ, ◌+◌, Bool, true, false, List, [], ◌∷◌, ℤ, pos, negsuc, Option, Some, None}
+use Rattle.std.proofs.Common.{refl}
+use Rattle.critical_paths.specs.declared.direction.Direction.TheVariants.{Rise, Change}
+use Rattle.critical_paths.specs.Region.{Region, regions}
+use Rattle.slack_rows.specs.Launched.{side_by}
+use Rattle.slack_rows.specs.Limit.{is_by_arrivals}
+use Rattle.slack_rows.specs.Rows.{are_one_region, told_once}
+use Rattle.slack_rows.specs.Slack.{Launches, Place, Nowhere, At, Arrived, Slack, Free, Ticks, Way, NoNumber, Told, Watch, after_window, before_window, told_after, told_before}
+use Rattle.slack_rows.specs.Window.{Window, Side, Late, Early, Either, about}
+use Rattle.slack_rows.proofs.Examples.{marked}
+
+-- ---- one region before an edge and after one
+
+-- windows of setup 2 and hold 1 about edges at 4 and at 9 of sixteen slots
+abbrev at_edge : ℕ → Window
+at_edge t = about 16 (2, 1) (record { first = t; last = t })
+
+abbrev ticks : ℕ → ℕ → Region
+ticks first last = record { first = first; last = last }
+
+one_edge : are_one_region (At (at_edge 4) (ticks 50 60)) (At (at_edge 4) (ticks 50 60)) ≡ true
+one_edge = refl
+
+-- It is too late for the first edge and too early after the second: earlier or later would do.
+covers_both : are_one_region (At (at_edge 4) (ticks 50 60)) (At (at_edge 9) (ticks 50 60)) ≡ true
+covers_both = refl
+
+-- Early after the first edge and late for the second, what mends the one makes the other worse.
+between_them : are_one_region (At (at_edge 9) (ticks 53 56)) (At (at_edge 4) (ticks 53 56)) ≡ false
+between_them = refl
+
+other_begin : are_one_region (At (at_edge 4) (ticks 50 60)) (At (at_edge 4) (ticks 51 60)) ≡ false
+other_begin = refl
+
+other_end : are_one_region (At (at_edge 4) (ticks 50 60)) (At (at_edge 4) (ticks 50 59)) ≡ false
+other_end = refl
+
+of_arrivals : are_one_region (Arrived (at_edge 4) 50) (Arrived (at_edge 4) 50) ≡ false
+of_arrivals = refl
+
+-- ---- told once
+
+abbrev told : Slack → ℕ → Told
+told slack pin = record { slack = slack; place = At (at_edge 4) (ticks 50 60); pin = pin; direction = Change }
+
+both_broken : told_once true (told (Ticks (negsuc 0)) 1) (told (Ticks (negsuc 9)) 1) ≡ true
+both_broken = refl
+
+first_met : told_once true (told (Ticks (pos 0)) 1) (told (Ticks (negsuc 9)) 1) ≡ false
+first_met = refl
+
+second_met : told_once true (told (Ticks (negsuc 0)) 1) (told (Ticks (pos 0)) 1) ≡ false
+second_met = refl
+
+of_other_cases : told_once false (told (Ticks (negsuc 0)) 1) (told (Ticks (negsuc 9)) 1) ≡ false
+of_other_cases = refl
+
+of_other_pins : told_once true (told (Ticks (negsuc 0)) 1) (told (Ticks (negsuc 9)) 2) ≡ false
+of_other_pins = refl
+
+abbrev rising : Told
+rising = record { slack = Ticks (negsuc 0); place = At (at_edge 4) (ticks 50 60); pin = 1; direction = Rise }
+
+of_other_steps : told_once true rising (told (Ticks (negsuc 9)) 1) ≡ false
+of_other_steps = refl
+
+abbrev without : Slack → Told
+without slack = record { slack = slack; place = Nowhere; pin = 1; direction = Change }
+
+-- whatever the cases
+no_numbers : told_once false (without NoNumber) (without NoNumber) ≡ true
+no_numbers = refl
+
+one_number : told_once true (without NoNumber) (without (Way (pos 1))) ≡ false
+one_number = refl
+
+none_free : told_once true (without Free) (without NoNumber) ≡ false
+none_free = refl
+
+-- ---- by the launch
+
+before_edge : side_by (Some (pos 3)) (Some (pos 3)) ≡ Late
+before_edge = refl
+
+after_edge : side_by (Some (negsuc 2)) (Some (negsuc 2)) ≡ Early
+after_edge = refl
+
+-- what the edge itself launches comes after it
+by_edge : side_by (Some (pos 0)) (Some (pos 0)) ≡ Early
+by_edge = refl
+
+first_by_edge : side_by (Some (pos 3)) (Some (pos 0)) ≡ Either
+first_by_edge = refl
+
+last_by_edge : side_by (Some (pos 0)) (Some (pos 3)) ≡ Either
+last_by_edge = refl
+
+not_known : side_by None (Some (pos 3)) ≡ Either
+not_known = refl
+
+abbrev by_itself : Launches
+by_itself = record { side = λ w r. side_by (Some (pos 0)) (Some (pos 0)); two = λ w r. None; last_way = None; first_way = None }
+
+-- an edge at 4, and the ticks 3 to 5 of its window; data about it and data in it
+abbrev about_it : Watch
+about_it = record { changes = marked ".xxxxxx........."; windows = at_edge 4 ∷ []; never = false }
+
+abbrev in_it : Watch
+in_it = record { changes = marked "...x............"; windows = at_edge 4 ∷ []; never = false }
+
+-- The last change before it is that of the period before: 10 ticks before the window.
+before_about : (told_before 16 by_itself about_it).slack ≡ Ticks (pos 12)
+before_about = refl
+
+after_about : (told_after 16 by_itself about_it).slack ≡ Ticks (negsuc 4)
+after_about = refl
+
+before_in : (told_before 16 by_itself in_it).slack ≡ Ticks (pos 15)
+before_in = refl
+
+after_in : (told_after 16 by_itself in_it).slack ≡ Ticks (negsuc 2)
+after_in = refl
+
+-- ---- two launches at one edge
+
+abbrev two_at : ℕ → ℕ → Launches
+two_at last first = record { side = λ w r. Either; two = λ w r. Some (last, first); last_way = None; first_way = None }
+
+-- Ticks count from 48 ticks before: the window is 51 to 53. One arrives in it and the other does not.
+last_inside : (told_before 16 (two_at 51 54) about_it).slack ≡ Ticks (negsuc 0)
+last_inside = refl
+
+beside_last : (told_after 16 (two_at 51 54) about_it).slack ≡ Ticks (pos 0)
+beside_last = refl
+
+first_inside : (told_after 16 (two_at 50 53) about_it).slack ≡ Ticks (negsuc 0)
+first_inside = refl
+
+beside_first : (told_before 16 (two_at 50 53) about_it).slack ≡ Ticks (pos 0)
+beside_first = refl
+
+-- where neither does, the region counts on both sides
+neither_inside : (told_before 16 (two_at 50 54) about_it).slack ≡ Ticks (negsuc 3)
+neither_inside = refl
+
+neither_after : (told_after 16 (two_at 50 54) about_it).slack ≡ Ticks (negsuc 4)
+neither_after = refl
+
+-- ---- what goes by arrivals
+
+abbrev always : List Window → Watch
+always windows = record { changes = marked "xxxxxxxxxxxxxxxx"; windows = windows; never = false }
+
+-- without a window nothing does
+no_window : is_by_arrivals 16 (λ w r. true) (always []) ≡ false
+no_window = refl
+
+every_slot : is_by_arrivals 16 (λ w r. false) (always (at_edge 4 ∷ [])) ≡ true
+every_slot = refl
+
+two_there : is_by_arrivals 16 (λ w r. true) in_it ≡ true
+two_there = refl
+
+none_there : is_by_arrivals 16 (λ w r. false) in_it ≡ false
+none_there = refl

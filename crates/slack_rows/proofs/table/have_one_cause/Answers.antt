@@ -1,0 +1,13 @@
+use Rattle.std.proofs.Common.{◌≡◌, ◌∙◌, ◌&&◌, sym}
+use Rattle.slack_rows.specs.Rows.{are_one_region}
+use Rattle.slack_rows.specs.Views.{told_by_found}
+use Rattle.slack_rows.proofs.table.have_one_cause.Goals as goal
+
+pub returns-then-is_same_pin : goal.returns-then-is_same_pin
+returns-then-is_same_pin c = λ p near near_after.
+    (λ i. (sym c.if-is_same_pin.true ∙ c.is_same_pin.ensures p) i && c.have_one_region.ensures p near near_after i)
+
+pub returns-else-is_same_pin : goal.returns-else-is_same_pin
+returns-else-is_same_pin c = λ p near near_after.
+    c.if-is_same_pin.false
+    ∙ (λ i. (sym c.if-is_same_pin.false ∙ c.is_same_pin.ensures p) i && are_one_region (told_by_found p c.args.before).place (told_by_found p c.args.after).place)
