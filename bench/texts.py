@@ -266,6 +266,17 @@ def fault_chains(buses):
     return drawing(lines)
 
 
+def broken_rows(buses):
+    """256 bits of each of so many buses whose setup is broken, each bit in a statement and a row of its own."""
+    lines = []
+    for i in range(buses):
+        for bit in range(256):
+            most = 31 + bit % 24
+            lines.append(f'b{i}x{bit} : BUF [{most - 20}:{most}] ("A{i} .S1-4"<{bit}>) -> ("B{i}"<{bit}>);')
+            lines.append(f'c{i}x{bit} : SETUP_HOLD_CHK {{SETUP=20, HOLD=5}} ("CK .P2-3", "B{i}"<{bit}>);')
+    return drawing(lines)
+
+
 def one_cause(uses):
     """256 faults at each of so many uses that a FOR makes, all of one cause."""
     lines = ['b : BUF [10:40] ("IN .S1-4"<0:255>) -> ("D"<0:255>);', f"FOR I = 1 TO {uses} DO"]

@@ -167,7 +167,7 @@ says() {
 
 forms='usage:
     scald verify [waves|faults] [rounds=N] <DRAWING    whether the drawing keeps its constraints, with its waves and faults
-    scald notes <DRAWING                               what the drawing does not say
+    scald notes <DRAWING                               likely omissions
     scald format <DRAWING                              the drawing in its canonical form
     scald upgrade <DRAWING                             the drawing in version 2 of the language
     scald slack [worst=N] [rounds=N] <DRAWING          by how many ticks each limit is met or missed, the worst first
@@ -197,11 +197,11 @@ none() {
 none ''
 none "unknown command 'check'" check
 none "'twice' cannot come after 'verify'" verify twice
-none "'faults' cannot come after 'rounds=5': it stands once, after verify; rounds=N comes last" verify rounds=5 faults
-none "'waves' cannot come after 'waves': it stands once, after verify; rounds=N comes last" verify waves waves
-none "'waves' cannot come after 'format': it stands once, after verify; rounds=N comes last" format waves
+none "'faults' cannot come after 'rounds=5'" verify rounds=5 faults
+none "'waves' cannot come after 'waves'" verify waves waves
+none "'waves' cannot come after 'format'" format waves
 none "'format' cannot come after 'format'" format format
-none "'waves' cannot come after 'upgrade': it stands once, after verify; rounds=N comes last" upgrade waves
+none "'waves' cannot come after 'upgrade'" upgrade waves
 none "'upgrade' cannot come after 'upgrade'" upgrade upgrade
 # words that are nearly one of a form
 none "unknown command 'verfy': is verify meant?" verfy
@@ -211,17 +211,17 @@ none "'Faults' cannot come after 'verify': is faults meant?" verify Faults round
 none "'round=5' cannot come after 'waves': is rounds=N meant?" verify waves round=5
 none "'Faults' cannot come after 'waves'" verify waves Faults
 none "'rounds=0' cannot come after 'faults': N is 1 to 10000000, without zeros in front" verify faults rounds=0
-none "'faults' cannot come after 'waves': it stands once, after verify; rounds=N comes last" verify waves faults
+none "'faults' cannot come after 'waves'" verify waves faults
 # words of other forms, and files
-none "unknown command 'waves': it stands once, after verify; rounds=N comes last" waves
-none "unknown command 'rounds=5': it stands once, and last, after verify, slack or explain" rounds=5 verify
-none "unknown command 'worst=5': it stands once, after slack or explain; rounds=N comes last" worst=5
-none "unknown command 'case=2': it stands after run T SEED" case=2
-none "'rounds=5' cannot come after 'chains': it stands once, and last, after verify, slack or explain" chains rounds=5
-none "'faults' cannot come after '0': it stands once, after verify; rounds=N comes last" run 6 0 faults
-none "'case=2' cannot come after 'verify': it stands after run T SEED" verify case=2
-none "'case=2' cannot come after 'waves': it stands after run T SEED" verify waves case=2
-none "'case=2' cannot come after 'rounds=5': it stands after run T SEED" verify rounds=5 case=2
+none "unknown command 'waves'" waves
+none "unknown command 'rounds=5'" rounds=5 verify
+none "unknown command 'worst=5'" worst=5
+none "unknown command 'case=2'" case=2
+none "'rounds=5' cannot come after 'chains'" chains rounds=5
+none "'faults' cannot come after '0'" run 6 0 faults
+none "'case=2' cannot come after 'verify'" verify case=2
+none "'case=2' cannot come after 'waves'" verify waves case=2
+none "'case=2' cannot come after 'rounds=5'" verify rounds=5 case=2
 input=': a drawing is read from standard input, as in scald verify <FILE'
 none "unknown command 'first.scald'$input" first.scald
 none "unknown command 'examples/first'$input" examples/first
@@ -254,16 +254,16 @@ none "unknown command 'VERIFY': is verify meant?" VERIFY
 none "unknown command 'Upgrade': is upgrade meant?" Upgrade
 # no word stands beside these
 none "'notes' cannot come after 'notes'" notes notes
-none "'faults' cannot come after 'notes': it stands once, after verify; rounds=N comes last" notes faults
+none "'faults' cannot come after 'notes'" notes faults
 none "'' cannot come after 'notes'" notes ''
 none "unknown command 'note': is notes meant?" note
 none "'margins' cannot come after 'margins'" margins margins
-none "'waves' cannot come after 'margins': it stands once, after verify; rounds=N comes last" margins waves
+none "'waves' cannot come after 'margins'" margins waves
 none "'' cannot come after 'margins'" margins ''
 none "unknown command 'Margins': is margins meant?" Margins
 none "unknown command 'margin': is margins meant?" margin
 none "'chains' cannot come after 'chains'" chains chains
-none "'faults' cannot come after 'chains': it stands once, after verify; rounds=N comes last" chains faults
+none "'faults' cannot come after 'chains'" chains faults
 none "'' cannot come after 'chains'" chains ''
 none "unknown command 'chain': is chains meant?" chain
 none "'explain' cannot come after 'explain'" explain explain
@@ -271,14 +271,14 @@ none "'worst=0' cannot come after 'explain': N is 1 to 65536, without zeros in f
 none "'worst=65537' cannot come after 'slack': N is 1 to 65536, without zeros in front" slack worst=65537
 none "'worst=01' cannot come after 'slack': N is 1 to 65536, without zeros in front" slack worst=01
 none "'rounds=0' cannot come after 'worst=2': N is 1 to 10000000, without zeros in front" slack worst=2 rounds=0
-none "'worst=2' cannot come after 'rounds=5': it stands once, after slack or explain; rounds=N comes last" explain rounds=5 worst=2
+none "'worst=2' cannot come after 'rounds=5'" explain rounds=5 worst=2
 none "'more' cannot come after 'rounds=5'" slack worst=2 rounds=5 more
 none "'5' cannot come after 'slack'" slack 5
-none "'faults' cannot come after 'explain': it stands once, after verify; rounds=N comes last" explain faults
+none "'faults' cannot come after 'explain'" explain faults
 none "'' cannot come after 'explain'" explain ''
 none "unknown command 'explian': is explain meant?" explian
 none "'sections' cannot come after 'sections'" sections sections
-none "'waves' cannot come after 'sections': it stands once, after verify; rounds=N comes last" sections waves
+none "'waves' cannot come after 'sections'" sections waves
 none "'' cannot come after 'sections'" sections ''
 none "'3' cannot come after 'sections'" sections 3
 none "unknown command 'Sections': is sections meant?" Sections
@@ -302,9 +302,9 @@ for number in '' 00 -1 4097 65536; do
     none "'$number' cannot come after 'judge': F is 0 to 4096, without zeros in front" judge "$number"
 done
 # three words at most, and two for bench
-none "'faults' cannot come after 'rounds=5': it stands once, after verify; rounds=N comes last" verify waves rounds=5 faults
-none "'rounds=5' cannot come after 'rounds=5': it stands once, and last, after verify, slack or explain" verify waves rounds=5 rounds=5
-none "'rounds=6' cannot come after 'rounds=5': it stands once, and last, after verify, slack or explain" verify rounds=5 rounds=6
+none "'faults' cannot come after 'rounds=5'" verify waves rounds=5 faults
+none "'rounds=5' cannot come after 'rounds=5'" verify waves rounds=5 rounds=5
+none "'rounds=6' cannot come after 'rounds=5'" verify rounds=5 rounds=6
 none "'' cannot come after 'rounds=5'" verify waves rounds=5 ''
 none "'3' cannot come after '3'" bench 3 3
 # numbers without a sign or zeros in front, within their bounds and not cut
@@ -348,7 +348,7 @@ head -c 4194304 /dev/zero | tr '\0' ';' >"$work/text"
 )
 says "little memory" 8 'scald: there is not enough memory' $?
 "$program" "$(printf 'verify\351')" <"$first" >"$work/out" 2>"$work/said"
-says "a word that is no text" 20 'scald: the system gives no arguments, or not as text' $?
+says "a word that is no text" 20 'scald: arguments unavailable or not text' $?
 
 # sections: how many there are, and where one is refused
 for count in 0 64; do
@@ -451,7 +451,7 @@ says "no such case" 10 'scald: the drawing has no such case: it has 0' $?
 says "no trace" 9 'scald: no line END TRACE ends the trace' $?
 printf 'TRACE 6\nc1<0> - : 1\nCK<0> 010001\nEND TRACE\n' >"$work/trace"
 short "$pulse" | cat "$work/trace" - | "$program" judge 0 >"$work/out" 2>"$work/said"
-says "a wire past its bounds" 9 'scald: line 2 is not what stands there in a trace of the drawing' $?
+says "a wire past its bounds" 9 'scald: line 2 is not a valid line of a trace of the drawing' $?
 head -c 4194305 /dev/zero | "$program" run 6 0 >"$work/out" 2>"$work/said"
 says "one byte too many for a run" 5 'scald: the drawing has more than 4194304 bytes, or with a trace more than 16777216' $?
 head -c 16777217 /dev/zero | "$program" judge 0 >"$work/out" 2>"$work/said"

@@ -37,11 +37,20 @@ whole() {
 }
 
 whole row1 0
+# limits that nothing can break have no row, and are counted under the table
+whole free 0
 whole late 1
 whole common 1
+# what a rise launches is late for a clock that comes by the fall after it
 whole other_edge 1
+# the fall of a pulse that is shorter than its skew is a change of its own
 whole offset 1
+# 15 ticks off a pulse of 10 leave none
 whole swallowed 1
+# a change after the clock's fall is told by the fall
+whole after_fall 1
+# a change right after the clock's rise has a number too
+whole clock_early 1
 
 rows slack late 1 '  -20  SETUP 20  c1<0>     6' '   39  HOLD 5    c1<0>     6' 'BROKEN 1'
 rows slack marked 0 '   49  GATE BEFORE  g<0>     4' '   49  GATE AFTER   g<0>     4' 'MET 2'

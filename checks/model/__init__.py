@@ -18,7 +18,7 @@ In the order in which a drawing flows through them:
                                                slack     by how much each limit is met, and the changes that come to it
                                                spots     where the names of nets stand in a drawing
                                                report    the answers: their lines and statuses
-                                               notes     what a drawing does not say
+                                               notes     likely omissions
                                                sections  several drawings, each by itself, and joined
 
 It is tried on random_drawings, with patterns that chance would seldom draw; mending and spoiling make most of them good,

@@ -45,7 +45,7 @@ def regions(marks):
 
 
 class View:
-    """The waves at rest of one case."""
+    """The settled waves of one case."""
 
     def __init__(self, circuit, place, case):
         self.circuit = circuit
@@ -830,11 +830,13 @@ def lower(circuit, cases):
 
 
 def is_one_region(before, after):
-    """One region of changes at one place of the ticks: it would do earlier or later."""
+    """One region of changes at one place of the ticks, which is too late for an edge and too early after it or after a
+    later one: it would do earlier or later."""
     one, other = before.least, after.least
     return (
-        one.is_both and other.is_both and one.view is other.view and (one.pin, one.change) == (other.pin, other.change)
-        and one.region == other.region
+        is_broken(one) and is_broken(other) and one.view is other.view
+        and (one.pin, one.change) == (other.pin, other.change)
+        and one.region is not None and one.region == other.region and one.window[0] <= other.window[0]
     )
 
 

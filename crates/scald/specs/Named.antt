@@ -10,6 +10,7 @@ use Rattle.drawing_notes.specs.Answer.{notes_program}
 use Rattle.margin_report.specs.Answer.{margins}
 use Rattle.fault_chain.specs.Answer.{chains}
 use Rattle.slack_report.specs.Answer.{slack_program}
+use Rattle.slack_report.specs.Promise.{NeverBreaksIfMet}
 use Rattle.section_compose.specs.Answer.{composer}
 use Rattle.section_compose.specs.Promise.{IsPromised as IsPromisedJoined}
 use Rattle.section_compose.specs.declared.outcome.SectionsOutcome.{SectionsOutcome}
@@ -65,7 +66,7 @@ IsAnswerOf Margins words a d s s' k k' =
 IsAnswerOf Chains words a d s s' k k' =
     of_drawing (λ o. IsCall chains nothing_more words o d s s' k k') a
 IsAnswerOf Slacks words a d s s' k k' =
-    of_drawing (λ o. IsCall slack_program nothing_more words o d s s' k k') a
+    of_drawing (λ o. IsCall slack_program NeverBreaksIfMet words o d s s' k k') a
 IsAnswerOf Sections words a d s s' k k' =
     of_sections (λ o. IsCall composer IsPromisedJoined words o d s s' k k') a
 IsAnswerOf Simulator words a d s s' k k' =

@@ -106,6 +106,10 @@ pub fn answer_to<S: Source, K: Sink>(
         call_of words.now ≡ Call.Tool → result ≡ Answer.Drawing o → has_report o ≡ true →
         FaultlessNeverBreaks text) }
 
+    // The same of `slack` and `explain`, where no limit is broken.
+    ensures met { IfSome (S.left source.old) (λ text. call_of words.now ≡ Call.Slacks →
+        result ≡ Answer.Drawing Outcome.Clean → NeverBreaks text) }
+
     // The same of the whole that sections make.
     ensures joined { IfSome (S.left source.old) (λ text. call_of words.now ≡ Call.Sections →
         result ≡ Answer.Sections SectionsOutcome.Clean → NeverBreaksJoined text) }

@@ -5,8 +5,7 @@
 use crate::named::Answer;
 use crate::traced::say_trace;
 use diagnostics::{
-    Lines, explain_refusal, explain_section, explain_separator, explain_undriven, explain_words,
-    part, sets_limit,
+    Lines, explain_refusal, explain_section, explain_undriven, explain_words, part, sets_limit,
 };
 use scald_base::{Outcome, Refusal, Words};
 use section_compose::{SectionsOutcome, explain_broken, list_crossings, piece_of_section};
@@ -15,7 +14,7 @@ use std::io::Eprint;
 /// The forms of words that the program knows.
 pub const FORMS: &str = "usage:
     scald verify [waves|faults] [rounds=N] <DRAWING    whether the drawing keeps its constraints, with its waves and faults
-    scald notes <DRAWING                               what the drawing does not say
+    scald notes <DRAWING                               likely omissions
     scald format <DRAWING                              the drawing in its canonical form
     scald upgrade <DRAWING                             the drawing in version 2 of the language
     scald slack [worst=N] [rounds=N] <DRAWING          by how many ticks each limit is met or missed, the worst first
@@ -138,14 +137,12 @@ fn say_section(rt: &(impl Eprint + AllocGlobal), text: &[u8], section: u32, refu
         );
         say_lines(rt, &explain_refusal(rt.alloc(), lines, refusal));
     }
-    say_lines(rt, &explain_separator(rt.alloc(), text));
 }
 
 /// Says what is wrong with sections, where that is known, or else which nets cross between them.
 fn say_together(rt: &(impl Eprint + AllocGlobal), text: &[u8], outcome: &SectionsOutcome) {
     match outcome {
         SectionsOutcome::Refused { section, refusal } => say_section(rt, text, *section, *refusal),
-        SectionsOutcome::BadCount(_) => say_lines(rt, &explain_separator(rt.alloc(), text)),
         SectionsOutcome::BadSection { .. } => say_lines(rt, &explain_broken(rt.alloc(), text)),
         SectionsOutcome::Clean | SectionsOutcome::Faulty(_) => {
             say_lines(rt, &list_crossings(rt.alloc(), text))

@@ -36,7 +36,7 @@ fn explain_line(alloc: Global, number: u32) -> Lines {
         out.line(&[
             Part::Text(b"scald: line "),
             Part::Number(u64::from(number)),
-            Part::Text(b" is not what stands there in a trace of the drawing"),
+            Part::Text(b" is not a valid line of a trace of the drawing"),
         ]);
     }
     out

@@ -32,7 +32,7 @@ impl Unstarted {
     /// The line that says so on standard error.
     pub fn why(self) -> &'static str {
         match self {
-            Unstarted::NoArguments => "scald: the system gives no arguments, or not as text",
+            Unstarted::NoArguments => "scald: arguments unavailable or not text",
             Unstarted::NoMemory => NO_MEMORY,
         }
     }

@@ -18,8 +18,8 @@ pub enum SectionsOutcome {
     /// The rounds of a section do not settle in the limit, which is `round`. The net is the first
     /// that still changes: the lines that name it are written.
     Unsettled { section: u32, net: u32, round: u32 },
-    /// There are words, though there should be none. The number is that of the first, 0. Nothing is
-    /// read or written.
+    /// The words are none of the forms. The number is the index of the first wrong one, from 0.
+    /// Nothing is read or written.
     BadWords(u32),
     /// More bytes came than a text may have. Nothing is written.
     TooLong,

@@ -48,10 +48,14 @@ another_word = refl
 
 -- ---- lines
 
-met : last_lines 0 2 ≡ codes "\nMET 2\n"
+met : last_lines Table 0 0 2 ≡ codes "\nMET 2\n"
 unfolding digits last_lines
 met = refl
 
-broken : last_lines 3 7 ≡ codes "\nBROKEN 3\n"
+broken : last_lines Paragraphs 4 3 7 ≡ codes "\nBROKEN 3\n"
 unfolding digits last_lines
 broken = refl
+
+with_free : last_lines Table 4 0 2 ≡ codes "4 limits that nothing can break\n\nMET 2\n"
+unfolding digits last_lines
+with_free = refl

@@ -7,23 +7,26 @@ use Rattle.program_call.specs.Program.{IsLawful}
 use Rattle.program_call.proofs.Answering.{end_of_ended}
 use Rattle.program_call.proofs.Outcomes.{HoldsOfReports}
 use Rattle.program_call.proofs.Speaking.{evaluated_speaks, verdict_speaks}
+use Rattle.slack_report.specs.declared.request.Part.{Part}
 use Rattle.slack_report.specs.declared.request.Request.{Request}
 use Rattle.slack_report.specs.Answer.{slack_program, slacks_of}
 
-slacks_speak : HoldsOfReports (λ o. end_of o ≡ None) slacks_of
-slacks_speak d c base cases o bytes is = ap end_of is.outcome ∙ verdict_speaks is.broken
+slacks_speak : (part : Part) → HoldsOfReports (λ o. end_of o ≡ None) (slacks_of part)
+slacks_speak part d c base cases o bytes is = ap end_of is.outcome ∙ verdict_speaks is.broken
 
-reply_speaks : (rounds : Option ℕ) (text : List ℕ) (o : Outcome) (bytes : List ℕ) →
-    Evaluated slacks_of rounds text o bytes → end_of o ≡ None
-reply_speaks rounds text o bytes = evaluated_speaks slacks_of rounds text o bytes slacks_speak
+reply_speaks : (request : Request) (text : List ℕ) (o : Outcome) (bytes : List ℕ) →
+    Evaluated (slacks_of request.part) request.rounds text o bytes → end_of o ≡ None
+reply_speaks request text o bytes =
+    evaluated_speaks (slacks_of request.part) request.rounds text o bytes
+    (slacks_speak request.part)
 
 pub slack_program_lawful : IsLawful slack_program
 slack_program_lawful = record {
   ends = end_of_ended;
-  replies = λ (request : Request) text o bytes. reply_speaks request.rounds text o bytes;
+  replies = reply_speaks;
   one = λ (request : Request) text o o' bytes bytes' is is'.
-      reply_speaks request.rounds text o bytes is
-      ∙ sym (reply_speaks request.rounds text o' bytes' is');
+      reply_speaks request text o bytes is
+      ∙ sym (reply_speaks request text o' bytes' is');
   same = λ o bytes. refl;
   unread = λ request text other o bytes none is. absurd (cc);
 }

@@ -1,6 +1,6 @@
 //! What stands between the first line of an answer and the last ones.
 
-use crate::groups::{Groups, grouped};
+use crate::groups::grouped;
 use crate::page::Page;
 use crate::paragraphs::put_paragraphs;
 use crate::sheet::{Names, Sheet};
@@ -11,46 +11,20 @@ use scald_base::{Bytes, NoMemory};
 use slack_rows::Rows;
 use std::alloc::Global;
 
-/// Lines, and how many limits have a row.
-#[derive(Drop)]
-pub struct Body {
-    pub lines: Bytes,
-    pub limits: usize,
-}
-
-/// The lines of the table of these rows.
-fn table_lines(sheet: Sheet, groups: &Groups, worst: Option<u32>) -> Result<Bytes, NoMemory> {
-    let mut page = Page::new(sheet.alloc);
-    put_table(&mut page, sheet, groups, worst)?;
-    page.done()
-}
-
-/// The lines of the paragraphs on these rows.
-fn paragraph_lines(
-    sheet: Sheet,
-    drawing: &Drawing,
-    groups: &Groups,
-    worst: Option<u32>,
-) -> Result<Bytes, NoMemory> {
-    let mut page = Page::new(sheet.alloc);
-    put_paragraphs(&mut page, sheet, drawing, groups, worst);
-    page.done()
-}
-
 /// The table of a sheet.
-fn table_of(sheet: Sheet, worst: Option<u32>) -> Result<Body, NoMemory> {
+fn table_of(sheet: Sheet, worst: Option<u32>) -> Result<Bytes, NoMemory> {
     let groups = grouped(sheet)?;
-    let lines = table_lines(sheet, &groups, worst)?;
-    let limits = groups.limits;
-    Ok(Body { lines, limits })
+    let mut page = Page::new(sheet.alloc);
+    put_table(&mut page, sheet, groups.as_slice(), worst);
+    page.done()
 }
 
 /// The paragraphs of a sheet.
-fn paragraphs_of(sheet: Sheet, drawing: &Drawing, worst: Option<u32>) -> Result<Body, NoMemory> {
+fn paragraphs_of(sheet: Sheet, drawing: &Drawing, worst: Option<u32>) -> Result<Bytes, NoMemory> {
     let groups = grouped(sheet)?;
-    let lines = paragraph_lines(sheet, drawing, &groups, worst)?;
-    let limits = groups.limits;
-    Ok(Body { lines, limits })
+    let mut page = Page::new(sheet.alloc);
+    put_paragraphs(&mut page, sheet, drawing, groups.as_slice(), worst);
+    page.done()
 }
 
 /// The table of a circuit's slacks, with at least so many rows where there are.
@@ -59,8 +33,9 @@ pub fn table(
     circuit: &Circuit,
     rows: &Rows,
     worst: Option<u32>,
-) -> Result<Body, NoMemory> {
-    let names = Names::new(alloc, circuit)?;
+) -> Result<Bytes, NoMemory> {
+    let mut names = Names::new(alloc);
+    names.fill(alloc, circuit)?;
     let sheet = Sheet {
         alloc,
         circuit,
@@ -77,8 +52,9 @@ pub fn paragraphs(
     rows: &Rows,
     drawing: &Drawing,
     worst: Option<u32>,
-) -> Result<Body, NoMemory> {
-    let names = Names::new(alloc, circuit)?;
+) -> Result<Bytes, NoMemory> {
+    let mut names = Names::new(alloc);
+    names.fill(alloc, circuit)?;
     let sheet = Sheet {
         alloc,
         circuit,

@@ -1,6 +1,7 @@
 //! The slacks of a circuit over more and more cases, and the reply by them.
 
 ghost use Rattle.std.specs.Prelude.{◌≡◌, ◌<◌, ◌+◌, ℕ, ◌++◌, ◌∷◌, [], false, List, IfOk, OnOk, length, slice_get};
+ghost use Rattle.scald_base.specs.Time.{IsHeader};
 ghost use Rattle.step_values.specs.Cell.{values};
 ghost use Rattle.skew_algebra.specs.Wave.{IsNormal};
 ghost use Rattle.flat_circuit.specs.declared.instance.Instance.{Instance as OfCircuit};
@@ -11,8 +12,9 @@ ghost use Rattle.slack_rows.specs.Limit.{Case};
 ghost use Rattle.slack_report.specs.Answer.{AreRows, AreSlacksOf, first_line, last_lines};
 ghost use Rattle.slack_report.specs.Hazards.{AreMarked, has_hazard as mark_has_hazard};
 
-use crate::answer::{add_first, add_last};
-use crate::body::Body;
+use crate::answer::{Counts, add_first, add_last};
+use crate::counts::row_count;
+use crate::request::Part;
 use critical_paths::View;
 // a set of numbers: here of instances
 use fixpoint_engine::{NetSet as InstanceSet, Waves, waves_at_pins};
@@ -116,6 +118,20 @@ fn known_waves<W: CyclicWave<Item = Value>>(c: &Circuit, waves: &Waves<W>)
     }
 }
 
+/// What holds of the head of a circuit.
+fn known_header(c: &Circuit)
+    ensures { IsHeader c.now.header }
+{
+    c.header().known();
+}
+
+/// The limits of a circuit, over no case.
+pub fn no_rows(alloc: Global, circuit: &Circuit) -> Result<Rows, NoMemory>
+    ensures { IfOk result (λ rows. AreRows circuit.now [] rows) }
+{
+    Rows::new(alloc, circuit)
+}
+
 /// One case more, of this number.
 pub fn add_case<W: CyclicWave<Item = Value>>(
     rows: &mut Rows,
@@ -131,6 +147,7 @@ pub fn add_case<W: CyclicWave<Item = Value>>(
         (cases ++ record { number = number; waves = waves_of waves.now } ∷ []) rows.new) }
 {
     circuit.known();
+    known_header(circuit);
     known_waves(circuit, waves);
     let hazards = hazards_in(alloc, circuit, waves)?;
     let view = View {
@@ -142,15 +159,35 @@ pub fn add_case<W: CyclicWave<Item = Value>>(
     rows.add_case(number, &view)
 }
 
-/// The whole answer, where so many limits are broken.
-fn text(alloc: Global, circuit: &Circuit, broken: usize, body: &Body) -> Result<Bytes, NoMemory>
-    ensures { IfOk result (λ bytes. bytes
-        ≡ first_line circuit.now ++ body.now.lines ++ last_lines broken body.now.limits) }
+/// Puts the whole answer at the end: the first line, those that are given, and the last ones.
+fn add_text(
+    out: &mut Bytes,
+    circuit: &Circuit,
+    part: Part,
+    lines: &Bytes,
+    counts: Counts,
+) -> Result<(), NoMemory>
+    ensures { OnOk result (out.new ≡ out.old ++ first_line circuit.now ++ lines.now
+        ++ last_lines part counts.free counts.broken counts.limits) }
+{
+    add_first(out, circuit)?;
+    out.extend(lines.as_slice())?;
+    add_last(out, part, counts)
+}
+
+/// The whole answer.
+fn text(
+    alloc: Global,
+    circuit: &Circuit,
+    part: Part,
+    lines: &Bytes,
+    counts: Counts,
+) -> Result<Bytes, NoMemory>
+    ensures { IfOk result (λ bytes. bytes ≡ first_line circuit.now ++ lines.now
+        ++ last_lines part counts.free counts.broken counts.limits) }
 {
     let mut bytes = Bytes::new(alloc);
-    add_first(&mut bytes, circuit)?;
-    bytes.extend(body.lines.as_slice())?;
-    add_last(&mut bytes, broken, body.limits)?;
+    add_text(&mut bytes, circuit, part, lines, counts)?;
     Ok(bytes)
 }
 
@@ -159,18 +196,24 @@ fn text(alloc: Global, circuit: &Circuit, broken: usize, body: &Body) -> Result<
 pub fn reply(
     alloc: Global,
     circuit: &Circuit,
+    part: Part,
     rows: &Rows,
-    body: &Body,
+    lines: &Bytes,
 ) -> Result<Reply<Outcome>, NoMemory>
     requires { (cases : List Case) × AreRows circuit.now cases rows.now }
     ensures { IfOk result (λ reply. (cases : List Case) → AreRows circuit.now cases rows.now →
-        AreSlacksOf circuit.now cases reply.outcome reply.bytes) }
+        AreSlacksOf part circuit.now cases reply.outcome reply.bytes) }
 {
     let broken = rows.broken_count();
     if broken > MOST_LIMITS {
         return Err(NoMemory);
     }
-    let bytes = text(alloc, circuit, broken, body)?;
+    let counts = Counts {
+        free: rows.free_count(),
+        broken,
+        limits: row_count(rows),
+    };
+    let bytes = text(alloc, circuit, part, lines, counts)?;
     Ok(Reply {
         outcome: verdict(broken as u32),
         bytes,

@@ -14,13 +14,6 @@ pub struct Row {
     pub limits: List<Limit>,
 }
 
-/// The rows, the worst first, and how many limits they have.
-#[derive(Drop)]
-pub struct Groups {
-    pub rows: List<Row>,
-    pub limits: usize,
-}
-
 /// A limit that something can break: its row, where its slack is sorted, and its place among all.
 #[derive(Clone, Copy, PartialEq, Eq, PartialOrd, Ord)]
 struct Entry {
@@ -73,9 +66,8 @@ struct Key {
     cases: usize,
 }
 
-/// The limits that something can break and that are not told before, by their slacks.
-fn entries_of(sheet: Sheet) -> Result<Vec<Entry>, NoMemory> {
-    let mut entries = Vec::new(sheet.alloc);
+/// Adds the limits that something can break and that are not told before.
+fn add_entries(sheet: Sheet, entries: &mut Vec<Entry>) -> Result<(), NoMemory> {
     for place in 0..sheet.rows.parameters.len() {
         if let Some(limit) = sheet.limit(place) {
             if !sheet.is_told(place) {
@@ -87,21 +79,24 @@ fn entries_of(sheet: Sheet) -> Result<Vec<Entry>, NoMemory> {
             }
         }
     }
-    entries.sort()?;
-    Ok(entries)
+    Ok(())
 }
 
 impl Shapes {
-    /// No shapes, of so many events.
-    fn new(alloc: Global, events: usize) -> Result<Shapes, NoMemory> {
-        let mut known = List::with_room(alloc, events)?;
-        for _ in 0..events {
-            known.push(0)?;
-        }
-        Ok(Shapes {
+    /// No shapes, of no events.
+    fn new(alloc: Global) -> Shapes {
+        Shapes {
             distinct: IndexSet::new(alloc),
-            known,
-        })
+            known: List::new(alloc),
+        }
+    }
+
+    /// Gives so many events no shape.
+    fn begin(&mut self, events: usize) -> Result<(), NoMemory> {
+        for _ in 0..events {
+            self.known.push(0)?;
+        }
+        Ok(())
     }
 
     /// The number from 1 of the shape of an event's path that is known, or 0.
@@ -163,6 +158,22 @@ impl Shapes {
         Ok(shape)
     }
 
+    /// Adds events, which come from the last one back, after one of this shape, and gives the shape
+    /// of the last one.
+    fn add_all(
+        &mut self,
+        sheet: Sheet,
+        events: &[usize],
+        end: End,
+        before: usize,
+    ) -> Result<usize, NoMemory> {
+        let mut rest = before;
+        for back in 0..events.len() {
+            rest = self.add(sheet, events[events.len() - 1 - back], end, rest)?;
+        }
+        Ok(rest)
+    }
+
     /// The number from 1 of the shape of an event's path: the links that are not known up to one
     /// that is, and then back.
     fn of(&mut self, sheet: Sheet, start: usize) -> Result<usize, NoMemory> {
@@ -170,12 +181,8 @@ impl Shapes {
             return Ok(0);
         };
         let mut events = List::new(sheet.alloc);
-        let mut rest = self.add_unknown(sheet, start, &mut events)?;
-        for back in 0..events.len() {
-            let event = events.as_slice()[events.len() - 1 - back];
-            rest = self.add(sheet, event, node.end, rest)?;
-        }
-        Ok(rest)
+        let before = self.add_unknown(sheet, start, &mut events)?;
+        self.add_all(sheet, events.as_slice(), node.end, before)
     }
 
     /// That of a path, if there is one.
@@ -215,23 +222,52 @@ impl Shapes {
     }
 }
 
-/// Gives each limit its row, the worst first.
-fn number_rows(sheet: Sheet, entries: &mut [Entry]) -> Result<(), NoMemory> {
-    let mut shapes = Shapes::new(sheet.alloc, sheet.rows.paths.len())?;
-    let mut rows: IndexSet<Key> = IndexSet::new(sheet.alloc);
+/// The number of the row of the limit at a place.
+fn row_of(
+    sheet: Sheet,
+    keys: &mut IndexSet<Key>,
+    shapes: &mut Shapes,
+    place: usize,
+) -> Result<usize, NoMemory> {
+    let Some(limit) = sheet.limit(place) else {
+        return Ok(0);
+    };
+    let key = shapes.key(sheet, limit)?;
+    let (row, _) = keys.insert_full(key)?;
+    Ok(row)
+}
+
+/// Gives each limit its row, by the shapes of its paths.
+fn number_by(sheet: Sheet, shapes: &mut Shapes, entries: &mut [Entry]) -> Result<(), NoMemory> {
+    let mut keys = IndexSet::new(sheet.alloc);
     for at in 0..entries.len() {
-        let entry = entries[at];
-        if let Some(limit) = sheet.limit(entry.place) {
-            let (row, _) = rows.insert_full(shapes.key(sheet, limit)?)?;
-            entries[at] = Entry { row, ..entry };
-        }
+        entries[at].row = row_of(sheet, &mut keys, shapes, entries[at].place)?;
     }
     Ok(())
 }
 
-/// The limits of the first row of some entries.
-fn first_row(sheet: Sheet, entries: &[Entry]) -> Result<List<Limit>, NoMemory> {
-    let mut limits = List::new(sheet.alloc);
+/// Gives each limit its row, the worst first.
+fn number_rows(sheet: Sheet, entries: &mut [Entry]) -> Result<(), NoMemory> {
+    let mut shapes = Shapes::new(sheet.alloc);
+    shapes.begin(sheet.rows.paths.len())?;
+    number_by(sheet, &mut shapes, entries)
+}
+
+/// Adds all limits that have a row, row by row, the worst first.
+fn add_sorted(sheet: Sheet, entries: &mut Vec<Entry>) -> Result<(), NoMemory> {
+    add_entries(sheet, entries)?;
+    entries.sort()?;
+    number_rows(sheet, entries)?;
+    entries.sort()?;
+    Ok(())
+}
+
+/// Adds the limits of the first row of some entries.
+fn add_first_row(
+    sheet: Sheet,
+    entries: &[Entry],
+    limits: &mut List<Limit>,
+) -> Result<(), NoMemory> {
     for at in 0..entries.len() {
         if entries[at].row != entries[0].row {
             break;
@@ -240,23 +276,43 @@ fn first_row(sheet: Sheet, entries: &[Entry]) -> Result<List<Limit>, NoMemory> {
             limits.push(limit)?;
         }
     }
-    Ok(limits)
+    Ok(())
 }
 
-/// The limits that something can break, row by row, the worst first.
-pub fn grouped(sheet: Sheet) -> Result<Groups, NoMemory> {
-    let mut entries = entries_of(sheet)?;
-    number_rows(sheet, &mut entries)?;
-    entries.sort()?;
-    let mut rows = List::new(sheet.alloc);
+/// Adds the first row of some entries, whose first limit is known.
+fn add_row(
+    sheet: Sheet,
+    entries: &[Entry],
+    first: Limit,
+    rows: &mut List<Row>,
+) -> Result<(), NoMemory> {
+    let mut limits = List::new(sheet.alloc);
+    add_first_row(sheet, entries, &mut limits)?;
+    rows.push(Row { first, limits })
+}
+
+/// Adds the rows of entries.
+fn add_rows(sheet: Sheet, entries: &[Entry], rows: &mut List<Row>) -> Result<(), NoMemory> {
     for at in 0..entries.len() {
         if at == 0 || entries[at].row != entries[at - 1].row {
             if let Some(first) = sheet.limit(entries[at].place) {
-                let limits = first_row(sheet, &entries[at..])?;
-                rows.push(Row { first, limits })?;
+                add_row(sheet, &entries[at..], first, rows)?;
             }
         }
     }
-    let limits = entries.len();
-    Ok(Groups { rows, limits })
+    Ok(())
+}
+
+/// The rows of entries.
+fn rows_of(sheet: Sheet, entries: &[Entry]) -> Result<List<Row>, NoMemory> {
+    let mut rows = List::new(sheet.alloc);
+    add_rows(sheet, entries, &mut rows)?;
+    Ok(rows)
+}
+
+/// The limits that something can break, row by row, the worst first.
+pub fn grouped(sheet: Sheet) -> Result<List<Row>, NoMemory> {
+    let mut entries = Vec::new(sheet.alloc);
+    add_sorted(sheet, &mut entries)?;
+    rows_of(sheet, &entries)
 }

@@ -26,6 +26,7 @@ mod path_lines;
 mod answer;
 mod body;
 mod collected;
+mod counts;
 mod program;
 mod reporter;
 mod request;

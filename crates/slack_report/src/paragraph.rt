@@ -3,8 +3,10 @@
 use crate::groups::Row;
 use crate::page::{Page, number_of};
 use crate::path_lines::{Lines, put_path};
-use crate::sheet::{Limit, Sheet, name_of};
-use crate::words::{put_cases, put_limit, put_name, put_names, put_reason, put_slack};
+use crate::sheet::{Limit, Sheet};
+use crate::words::{
+    put_bit_name, put_cases, put_limit, put_name, put_names, put_reason, put_slack,
+};
 use critical_paths::{At, Corner, Part};
 use drawing_tree::Drawing;
 use slack_rows::{By, Least, Slack, Subject, Word};
@@ -23,10 +25,8 @@ fn put_head(page: &mut Page, sheet: Sheet, number: usize, row: &Row) {
     page.fill(b" (line #), slack ", &[sheet.line(parameter.subject)]);
     put_slack(page, least.told.slack);
     if row.limits.len() > 1 {
-        let (name, bit) = name_of(sheet.circuit, parameter.subject);
         page.put(b", path of ");
-        page.put(name);
-        page.fill(b"<#>", &[i64::from(bit)]);
+        put_bit_name(page, sheet, parameter.subject);
     }
     if sheet.has_cases() {
         page.put(b", case ");

@@ -2,7 +2,7 @@
 
 ghost use Rattle.std.specs.Prelude.{◌<◌};
 
-use crate::groups::{Groups, Row};
+use crate::groups::Row;
 use crate::page::{Page, number_of};
 use crate::paragraph::put_paragraph;
 use crate::sheet::Sheet;
@@ -56,10 +56,9 @@ pub fn put_paragraphs(
     page: &mut Page,
     sheet: Sheet,
     drawing: &Drawing,
-    groups: &Groups,
+    rows: &[Row],
     worst: Option<u32>,
 ) {
-    let rows = groups.rows.as_slice();
     let broken = broken_rows(rows);
     if worst.is_none() && broken == 0 {
         return put_kinds(page, sheet, drawing, rows);

@@ -3,8 +3,8 @@
 ghost use Rattle.std.specs.Prelude.{◌<◌, length};
 
 use crate::page::{Page, columns};
-use crate::sheet::{Sheet, name_of};
-use crate::words::{name_width, put_name, verb};
+use crate::sheet::Sheet;
+use crate::words::{name_width, put_name, put_verb};
 use assertion_syntax::write_name;
 use critical_paths::{At, End, Node, Passage, Step, Word};
 use drawing_places::spot_of;
@@ -128,7 +128,10 @@ fn put_word(page: &mut Page, sheet: Sheet, element: &Instance, pin: u16, word: W
 
 /// Puts what an element does in a link.
 fn put_passage(page: &mut Page, sheet: Sheet, net: u32, passage: Passage) {
-    let Some((number, element)) = sheet.instance(Subject::Net(net)) else {
+    let Some(number) = sheet.element(Subject::Net(net)) else {
+        return;
+    };
+    let Some(element) = sheet.circuit.instance(number) else {
         return;
     };
     put_element(page, sheet, number, element);
@@ -147,9 +150,8 @@ fn put_passage(page: &mut Page, sheet: Sheet, net: u32, passage: Passage) {
 }
 
 /// Puts the name of a net as it stands in the drawing, and its line.
-fn put_spot(page: &mut Page, lines: Lines, net: u32, spec: &AssertSpec) {
+fn put_spot(page: &mut Page, lines: Lines, text: &[u8], spec: &AssertSpec) {
     let alloc = lines.sheet.alloc;
-    let (text, _) = name_of(lines.sheet.circuit, Subject::Net(net));
     let spot = match spot_of(alloc, lines.drawing, text, spec) {
         Ok(Some(spot)) => spot,
         Ok(None) => return page.put(b"by its name"),
@@ -174,7 +176,7 @@ fn put_source(page: &mut Page, lines: Lines, begin: i64, step: Step) {
     if matches!(spec, AssertSpec::None) {
         return page.put(b"not driven");
     }
-    put_spot(page, lines, step.net, spec);
+    put_spot(page, lines, net.name.as_slice(), spec);
     let skew = step.tick.saturating_sub(begin);
     if skew != 0 {
         let text: &[u8] = if skew < 0 { b", # #" } else { b", # +#" };
@@ -231,7 +233,7 @@ fn put_event(page: &mut Page, sheet: Sheet, line: Line) {
     }
     put_name(page, sheet, Subject::Net(line.step.net));
     page.put(b" ");
-    page.put(verb(line.step.direction));
+    put_verb(page, line.step.direction);
     let wide = line.width.saturating_add(VERB).saturating_add(1);
     page.spaces(wide.saturating_sub(page.len().saturating_sub(begin)));
 }

@@ -1,12 +1,13 @@
 //! The whole call: words and bytes in, bytes and an outcome out.
 
-ghost use Rattle.std.specs.Prelude.{◌≡◌, ℕ, List, true};
+ghost use Rattle.std.specs.Prelude.{◌≡◌, ℕ, List, true, IfSome};
 ghost use Rattle.scald_base.specs.Device.{Rose};
-ghost use Rattle.program_call.specs.Call.{IsCall, devices, nothing_more};
+ghost use Rattle.timing_analysis.specs.Promise.{NeverBreaks};
+ghost use Rattle.program_call.specs.Call.{IsCall, devices};
 ghost use Rattle.program_call.specs.Program.{AreTold, speaks};
 ghost use Rattle.program_call.specs.Promise.{may_count};
 ghost use Rattle.slack_report.specs.Answer.{slack_program};
-ghost use Rattle.slack_report.specs.Promise.{EndsByLimits, SettlesUnlimited};
+ghost use Rattle.slack_report.specs.Promise.{EndsByLimits, NeverBreaksIfMet, SettlesUnlimited};
 
 use crate::reporter::{Paragraphs, Table};
 use crate::request::{Part, Request, read_request};
@@ -24,6 +25,7 @@ pub struct SlackProgram;
 
 impl Program for SlackProgram {
     ghost use Rattle.slack_report.specs.Answer.{slack_program};
+    ghost use Rattle.slack_report.specs.Promise.{NeverBreaksIfMet};
     ghost use Rattle.slack_report.specs.Words.{IsWithin};
 
     type Command = Request;
@@ -33,6 +35,8 @@ impl Program for SlackProgram {
     ghost meaning = { slack_program };
 
     ghost within = { IsWithin };
+
+    ghost promised = { NeverBreaksIfMet };
 
     fn read_words(words: &Words) -> Result<Request, u32> {
         read_request(words)
@@ -77,10 +81,9 @@ impl Program for SlackProgram {
 /// `worst=N` asks for at least N rows of the table, or for the paragraphs of the first N;
 /// `rounds=N` sets the limit of rounds.
 ///
-/// `Clean` comes where all limits are met, `Faulty` with the number of those that are broken; which
-/// of the two is proved where no limit is told by arrivals, and the number is not. Why a drawing is
-/// refused, or which net does not settle, is written as `verify` has it. All of the answer is made
-/// before the first byte of it is written.
+/// `Clean` comes where all limits are met, which is where `verify` finds no fault, and else `Faulty`
+/// with the number of those that are broken. Why a drawing is refused, or which net does not settle,
+/// is written as `verify` has it. All of the answer is made before the first byte of it is written.
 pub fn slack_main<S: Source, K: Sink>(
     alloc: Global,
     words: &Words,
@@ -88,11 +91,11 @@ pub fn slack_main<S: Source, K: Sink>(
     sink: &mut K,
 ) -> Outcome
     // What every main call promises: of its words, of its devices, and of the bytes that it writes.
-    ensures call { IsCall slack_program nothing_more words.now result
+    ensures call { IsCall slack_program NeverBreaksIfMet words.now result
         (devices S.left S.faults K.taken K.faults) source.old source.new sink.old sink.new }
 
     // If the source tells its bytes and no device fails, a text whose circuit and cases settle has
-    // the outcome of its limits, where none is told by arrivals: whether some is broken.
+    // the outcome of its limits: `Faulty` exactly where `verify` finds a fault.
     ensures finished { (text : List ℕ) → AreTold slack_program words.now (S.left source.old) text →
         ¬ Rose (S.faults source.old) (S.faults source.new) →
         ¬ Rose (K.faults sink.old) (K.faults sink.new) → EndsByLimits words.now text result }
@@ -102,6 +105,10 @@ pub fn slack_main<S: Source, K: Sink>(
     ensures given { speaks slack_program result ≡ true → may_count result ≡ true }
     ensures loopless { (text : List ℕ) → AreTold slack_program words.now (S.left source.old) text →
         SettlesUnlimited words.now text result }
+
+    // No limit broken, no break: in every run of the circuit that the text draws, from the tick on
+    // that `verify` prints.
+    ensures clean { IfSome (S.left source.old) (λ text. result ≡ Outcome.Clean → NeverBreaks text) }
 {
     main_call::<SlackProgram, S, K>(alloc, words, source, sink, &mut 0)
 }

@@ -1,8 +1,14 @@
 //! The slacks of a circuit while its cases come one after the other, and in the end its table or
 //! its paragraphs.
 
+ghost use Rattle.std.specs.Prelude.{List, IfOk};
+ghost use Rattle.slack_rows.specs.Limit.{Case};
+ghost use Rattle.slack_report.specs.declared.request.Part.TheVariants.{Paragraphs as OfParagraphs, Table as OfTable};
+ghost use Rattle.slack_report.specs.Answer.{AreRows, AreSlacks, AreSlacksOf, cases_of};
+
 use crate::body::{paragraphs, table};
-use crate::collected::{add_case, reply};
+use crate::collected::{add_case, no_rows, reply};
+use crate::request::Part;
 use drawing_tree::Drawing;
 use fixpoint_engine::Waves;
 use flat_circuit::Circuit;
@@ -23,18 +29,29 @@ pub struct Table {
     pub rows: Rows,
 }
 
-impl Reporter for Table {
-    ghost use Rattle.std.specs.Prelude.{List};
-    ghost use Rattle.slack_rows.specs.Limit.{Case};
-    ghost use Rattle.slack_report.specs.Answer.{AreRows, AreSlacks, cases_of};
+/// The reply of the table.
+fn table_reply(
+    alloc: Global,
+    circuit: &Circuit,
+    rows: &Rows,
+    worst: Option<u32>,
+) -> Result<Reply<Outcome>, NoMemory>
+    requires { (cases : List Case) × AreRows circuit.now cases rows.now }
+    ensures { IfOk result (λ reply. (cases : List Case) → AreRows circuit.now cases rows.now →
+        AreSlacksOf Part.Table circuit.now cases reply.outcome reply.bytes) }
+{
+    let lines = table(alloc, circuit, rows, worst)?;
+    reply(alloc, circuit, Part::Table, rows, &lines)
+}
 
+impl Reporter for Table {
     type Asked = Option<u32>;
 
     type Kept = ();
 
     ghost keeps = { λ d. tt };
 
-    ghost reports = { λ asked kept. AreSlacks };
+    ghost reports = { λ asked kept. AreSlacks OfTable };
 
     ghost holds = { λ table asked kept c base cases. AreRows c (cases_of cases) table.rows };
 
@@ -51,7 +68,7 @@ impl Reporter for Table {
         circuit: &Circuit,
         _base: u32,
     ) -> Result<Table, NoMemory> {
-        let rows = Rows::new(alloc, circuit)?;
+        let rows = no_rows(alloc, circuit)?;
         Ok(Table { worst, rows })
     }
 
@@ -67,8 +84,7 @@ impl Reporter for Table {
     }
 
     fn end(self, alloc: Global, circuit: &Circuit) -> Result<Reply<Outcome>, NoMemory> {
-        let body = table(alloc, circuit, &self.rows, self.worst)?;
-        reply(alloc, circuit, &self.rows, &body)
+        table_reply(alloc, circuit, &self.rows, self.worst)
     }
 }
 
@@ -97,11 +113,24 @@ pub struct Paragraphs {
     pub rows: Rows,
 }
 
+/// The reply of the paragraphs.
+fn paragraphs_reply(
+    alloc: Global,
+    circuit: &Circuit,
+    rows: &Rows,
+    drawing: &Drawing,
+    worst: Option<u32>,
+) -> Result<Reply<Outcome>, NoMemory>
+    requires { (cases : List Case) × AreRows circuit.now cases rows.now }
+    ensures { IfOk result (λ reply. (cases : List Case) → AreRows circuit.now cases rows.now →
+        AreSlacksOf Part.Paragraphs circuit.now cases reply.outcome reply.bytes) }
+{
+    let lines = paragraphs(alloc, circuit, rows, drawing, worst)?;
+    reply(alloc, circuit, Part::Paragraphs, rows, &lines)
+}
+
 impl Reporter for Paragraphs {
-    ghost use Rattle.std.specs.Prelude.{List};
     ghost use Rattle.drawing_tree.specs.Canonical.{canonical};
-    ghost use Rattle.slack_rows.specs.Limit.{Case};
-    ghost use Rattle.slack_report.specs.Answer.{AreRows, AreSlacks, cases_of};
 
     type Asked = Option<u32>;
 
@@ -109,7 +138,7 @@ impl Reporter for Paragraphs {
 
     ghost keeps = { canonical };
 
-    ghost reports = { λ asked kept. AreSlacks };
+    ghost reports = { λ asked kept. AreSlacks OfParagraphs };
 
     ghost holds = { λ told asked kept c base cases. AreRows c (cases_of cases) told.rows };
 
@@ -127,7 +156,7 @@ impl Reporter for Paragraphs {
         circuit: &Circuit,
         _base: u32,
     ) -> Result<Paragraphs, NoMemory> {
-        let rows = Rows::new(alloc, circuit)?;
+        let rows = no_rows(alloc, circuit)?;
         Ok(Paragraphs { worst, kept, rows })
     }
 
@@ -143,7 +172,6 @@ impl Reporter for Paragraphs {
     }
 
     fn end(self, alloc: Global, circuit: &Circuit) -> Result<Reply<Outcome>, NoMemory> {
-        let body = paragraphs(alloc, circuit, &self.rows, &self.kept.drawing, self.worst)?;
-        reply(alloc, circuit, &self.rows, &body)
+        paragraphs_reply(alloc, circuit, &self.rows, &self.kept.drawing, self.worst)
     }
 }

@@ -4,7 +4,7 @@ ghost use Rattle.std.specs.Prelude.{◌≤ℤ◌, pos};
 
 use critical_paths::{At, Node, Nodes, Parts, Steps, counted_twice};
 use drawing_places::scope_len;
-use flat_circuit::{Circuit, Instance};
+use flat_circuit::Circuit;
 use indexmap::IndexSet;
 use scald_base::{Bytes, List, NoMemory};
 use slack_rows::{Least, Parameter, Rows, Slack, Subject};
@@ -30,8 +30,7 @@ impl Texts {
 
     /// One text more.
     fn add(&mut self, alloc: Global, text: &[u8]) -> Result<(), NoMemory> {
-        let mut bytes = Bytes::new(alloc);
-        bytes.extend(text)?;
+        let bytes = Bytes::of(alloc, text)?;
         let (number, is_new) = self.distinct.insert_full(bytes)?;
         if is_new {
             self.counts.push(0)?;
@@ -68,36 +67,50 @@ pub struct Names {
 }
 
 impl Names {
-    /// Those of a circuit.
-    pub fn new(alloc: Global, c: &Circuit) -> Result<Names, NoMemory> {
-        let mut names = Names {
+    /// No names.
+    pub fn new(alloc: Global) -> Names {
+        Names {
             nets: Texts::new(alloc),
             paths: Texts::new(alloc),
             scopes: Texts::new(alloc),
-        };
-        for net in 0..c.net_count() {
-            names.nets.add(alloc, name_of(c, Subject::Net(net)).0)?;
+        }
+    }
+
+    /// Adds those of a circuit.
+    pub fn fill(&mut self, alloc: Global, c: &Circuit) -> Result<(), NoMemory> {
+        for number in 0..c.net_count() {
+            if let Some(net) = c.net(number) {
+                self.nets.add(alloc, net.name.as_slice())?;
+            }
         }
         for number in 0..c.instance_count() {
-            let (path, _) = name_of(c, Subject::Instance(number));
-            names.paths.add(alloc, path)?;
-            names.scopes.add(alloc, &path[..scope_len(path)])?;
+            if let Some(instance) = c.instance(number) {
+                self.add_path(alloc, instance.path.as_slice())?;
+            }
         }
-        Ok(names)
+        Ok(())
     }
-}
 
-/// The name of a net or an instance, and its bit.
-pub fn name_of(c: &Circuit, subject: Subject) -> (&[u8], u16) {
-    match subject {
-        Subject::Instance(number) => match c.instance(number) {
-            Some(found) => (found.path.as_slice(), found.bit),
-            None => (&[], 0),
-        },
-        Subject::Net(number) => match c.net(number) {
-            Some(found) => (found.name.as_slice(), found.bit),
-            None => (&[], 0),
-        },
+    /// Adds the path of an instance, and its scope.
+    fn add_path(&mut self, alloc: Global, path: &[u8]) -> Result<(), NoMemory> {
+        self.paths.add(alloc, path)?;
+        self.scopes.add(alloc, &path[..scope_len(path)])
+    }
+
+    /// The number of the name of a net or an instance.
+    pub fn number(&self, subject: Subject) -> usize {
+        match subject {
+            Subject::Instance(number) => self.paths.number(number),
+            Subject::Net(number) => self.nets.number(number),
+        }
+    }
+
+    /// Whether no other bit has the name of a net or an instance.
+    pub fn is_alone(&self, subject: Subject) -> bool {
+        match subject {
+            Subject::Instance(number) => self.paths.is_alone(number),
+            Subject::Net(number) => self.nets.is_alone(number),
+        }
     }
 }
 
@@ -241,18 +254,32 @@ impl<'a> Sheet<'a> {
         })
     }
 
-    /// The instance that a subject is, or that drives it.
-    pub fn instance(self, subject: Subject) -> Option<(u32, &'a Instance)> {
-        let number = match subject {
-            Subject::Instance(number) => number,
-            Subject::Net(net) => self.circuit.net(net)?.driver?,
-        };
-        Some((number, self.circuit.instance(number)?))
+    /// The bit of a net or an instance.
+    pub fn bit(self, subject: Subject) -> u16 {
+        match subject {
+            Subject::Instance(number) => match self.circuit.instance(number) {
+                Some(found) => found.bit,
+                None => 0,
+            },
+            Subject::Net(number) => match self.circuit.net(number) {
+                Some(found) => found.bit,
+                None => 0,
+            },
+        }
+    }
+
+    /// The number of the instance that a subject is, or that drives it.
+    pub fn element(self, subject: Subject) -> Option<u32> {
+        match subject {
+            Subject::Instance(number) => Some(number),
+            Subject::Net(net) => self.circuit.net(net)?.driver,
+        }
     }
 
     /// Where its statement stands.
     pub fn statement(self, subject: Subject) -> Option<Statement> {
-        let (number, instance) = self.instance(subject)?;
+        let number = self.element(subject)?;
+        let instance = self.circuit.instance(number)?;
         Some(Statement {
             scope: self.names.scopes.number(number),
             line: instance.place.line,
@@ -262,8 +289,8 @@ impl<'a> Sheet<'a> {
 
     /// The line of its statement.
     pub fn line(self, subject: Subject) -> i64 {
-        match self.instance(subject) {
-            Some((_, instance)) => i64::from(instance.place.line),
+        match self.statement(subject) {
+            Some(statement) => i64::from(statement.line),
             None => 0,
         }
     }

@@ -3,9 +3,8 @@
 ghost use Rattle.std.specs.Prelude.{◌≤◌, length};
 
 use crate::page::{Page, columns};
-use crate::sheet::{Limit, Sheet, name_of};
+use crate::sheet::{Limit, Sheet};
 use critical_paths::Direction;
-use scald_base::same_bytes;
 use slack_rows::{Least, Parameter, Reason, Slack, Subject, Word};
 
 /// Puts the word of a limit, with its number where it has one.
@@ -51,58 +50,78 @@ pub fn put_reason(page: &mut Page, reason: Reason) {
     page.put(text);
 }
 
-/// What a step does.
-pub fn verb(direction: Direction) -> &'static [u8] {
-    match direction {
+/// Puts what a step does.
+pub fn put_verb(page: &mut Page, direction: Direction) {
+    let text: &[u8] = match direction {
         Direction::Rise => b"rises",
         Direction::Fall => b"falls",
         Direction::Change => b"changes",
+    };
+    page.put(text);
+}
+
+/// Puts the name of a net or the path of an instance, without its bit.
+fn put_text(page: &mut Page, sheet: Sheet, subject: Subject) {
+    match subject {
+        Subject::Instance(number) => {
+            if let Some(found) = sheet.circuit.instance(number) {
+                page.put(found.path.as_slice());
+            }
+        }
+        Subject::Net(number) => {
+            if let Some(found) = sheet.circuit.net(number) {
+                page.put(found.name.as_slice());
+            }
+        }
     }
 }
 
-/// The name of a net or an instance, and its bit where that is told: where there is another, or it
-/// is not 0.
-fn told_name<'a>(sheet: Sheet<'a>, subject: Subject) -> (&'a [u8], Option<u16>) {
-    let (text, bit) = name_of(sheet.circuit, subject);
-    let is_alone = match subject {
-        Subject::Instance(number) => sheet.names.paths.is_alone(number),
-        Subject::Net(net) => sheet.names.nets.is_alone(net),
-    };
-    (
-        text,
-        if is_alone && bit == 0 {
-            None
-        } else {
-            Some(bit)
-        },
-    )
+/// The bit of a net or an instance where that is told: where there is another, or it is not 0.
+fn told_bit(sheet: Sheet, subject: Subject) -> Option<u16> {
+    let bit = sheet.bit(subject);
+    if bit == 0 && sheet.names.is_alone(subject) {
+        None
+    } else {
+        Some(bit)
+    }
+}
+
+/// Puts the name of a net or an instance with its bit.
+pub fn put_bit_name(page: &mut Page, sheet: Sheet, subject: Subject) {
+    put_text(page, sheet, subject);
+    page.fill(b"<#>", &[i64::from(sheet.bit(subject))]);
 }
 
 /// Puts the name of a net or an instance, whose bit is left out where it is the only one.
 pub fn put_name(page: &mut Page, sheet: Sheet, subject: Subject) {
-    let (text, bit) = told_name(sheet, subject);
-    page.put(text);
-    if let Some(bit) = bit {
-        page.fill(b"<#>", &[i64::from(bit)]);
+    match told_bit(sheet, subject) {
+        Some(_) => put_bit_name(page, sheet, subject),
+        None => put_text(page, sheet, subject),
     }
 }
 
 /// How many columns the name of a net fills.
 pub fn name_width(sheet: Sheet, net: u32) -> usize {
-    let (text, bit) = told_name(sheet, Subject::Net(net));
-    match bit {
+    let text = match sheet.circuit.net(net) {
+        Some(found) => found.name.len(),
+        None => 0,
+    };
+    match told_bit(sheet, Subject::Net(net)) {
         Some(bit) => text
-            .len()
             .saturating_add(2)
             .saturating_add(columns(i64::from(bit))),
-        None => text.len(),
+        None => text,
     }
 }
 
-/// The name of what a limit is of, and its bit.
-fn limit_name<'a>(sheet: Sheet<'a>, limit: Limit) -> (&'a [u8], i64) {
-    let (name, bit) = name_of(sheet.circuit, limit.parameter.subject);
-    (name, i64::from(bit))
+/// The number of the name of what a limit is of.
+fn name_of(sheet: Sheet, limit: Limit) -> usize {
+    sheet.names.number(limit.parameter.subject)
+}
+
+/// The bit of what a limit is of.
+fn bit_of(sheet: Sheet, limit: Limit) -> i64 {
+    i64::from(sheet.bit(limit.parameter.subject))
 }
 
 /// How many limits from the first on have its name.
@@ -112,9 +131,9 @@ fn same_count(sheet: Sheet, limits: &[Limit]) -> usize
     let Some(first) = limits.first() else {
         return 0;
     };
-    let (name, _) = limit_name(sheet, *first);
+    let name = name_of(sheet, *first);
     for (count, limit) in limits.iter().enumerate() {
-        if !same_bytes(limit_name(sheet, *limit).0, name) {
+        if name_of(sheet, *limit) != name {
             return count;
         }
     }
@@ -125,7 +144,7 @@ fn same_count(sheet: Sheet, limits: &[Limit]) -> usize
 fn are_in_turn(sheet: Sheet, limits: &[Limit], first: i64) -> bool {
     let mut next = first;
     for limit in limits {
-        if limit_name(sheet, *limit).1 != next {
+        if bit_of(sheet, *limit) != next {
             return false;
         }
         next = next.saturating_add(1);
@@ -138,14 +157,14 @@ fn put_bits(page: &mut Page, sheet: Sheet, limits: &[Limit]) {
     let (Some(first), Some(last)) = (limits.first(), limits.last()) else {
         return;
     };
-    let (name, bit) = limit_name(sheet, *first);
-    page.put(name);
+    let bit = bit_of(sheet, *first);
+    put_text(page, sheet, first.parameter.subject);
     if are_in_turn(sheet, limits, bit) {
-        return page.fill(b"<#:#>", &[bit, limit_name(sheet, *last).1]);
+        return page.fill(b"<#:#>", &[bit, bit_of(sheet, *last)]);
     }
     for (at, limit) in limits.iter().enumerate() {
         let text: &[u8] = if at == 0 { b"<#" } else { b",#" };
-        page.fill(text, &[limit_name(sheet, *limit).1]);
+        page.fill(text, &[bit_of(sheet, *limit)]);
     }
     page.put(b">");
 }
@@ -153,10 +172,10 @@ fn put_bits(page: &mut Page, sheet: Sheet, limits: &[Limit]) {
 /// How many names there are.
 fn name_count(sheet: Sheet, limits: &[Limit]) -> i64 {
     let mut count: i64 = 0;
-    let mut name: &[u8] = b"";
+    let mut name = None;
     for limit in limits {
-        let (own, _) = limit_name(sheet, *limit);
-        if !same_bytes(own, name) {
+        let own = Some(name_of(sheet, *limit));
+        if own != name {
             count = count.saturating_add(1);
             name = own;
         }

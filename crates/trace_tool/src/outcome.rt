@@ -27,7 +27,7 @@ pub enum TraceOutcome {
     WriteFault,
     /// Memory ran out. Nothing is written.
     NoMemory,
-    /// The line of the trace with this number, from 1, is not what stands there in a trace of the
+    /// The line of the trace with this number, from 1, is not a valid line of a trace of the
     /// circuit; or, where the number is 0, no line ends the trace. Nothing is written.
     BadTrace(u32),
     /// There is no case of the number that was asked for: the drawing has so many. Nothing is

@@ -13,3 +13,6 @@ drawn (Some text) o Asked clean = λ asked same. let is : o ≡ Clean = cc same 
 
 pub returns-in-Tool-clause-clean : goal.returns-in-Tool-clause-clean
 returns-in-Tool-clause-clean g c = drawn (g.S.Source.left c.args.source.now) c.tool_main.result _ c.tool_main.ensures.clean
+
+pub returns-in-Slacks-clause-met : goal.returns-in-Slacks-clause-met
+returns-in-Slacks-clause-met g c = drawn (g.S.Source.left c.args.source.now) c.slack_main.result _ c.slack_main.ensures.clean

@@ -1,6 +1,8 @@
 use Rattle.std.proofs.Common.{refl}
 use Rattle.std.proofs.lemmas.Result.{on_ok_weaker}
 use Rattle.fixpoint_engine.specs.Waves.{waves_of}
+use Rattle.slack_rows.specs.Limit.{Case}
+use Rattle.slack_report.proofs.Gathered.{waves_more}
 use Rattle.slack_report.proofs.collected.add_case.Goals as goal
 
 pub add_case-requires-clause-sees : goal.add_case-requires-clause-sees
@@ -12,13 +14,22 @@ add_case-requires-clause-sees g c = record {
 }
 
 pub add_case-requires-clause-limits : goal.add_case-requires-clause-limits
-add_case-requires-clause-limits g c = c.requires.ready.1.are_limits
+add_case-requires-clause-limits g c = c.requires.ready.1.known.are_limits
 
 pub returns : goal.returns
 returns g c =
-    on_ok_weaker c.add_case.result
-    (λ more cases are. more cases (record {
+    let one : Case = record {
       number = c.args.number;
       waves = waves_of c.args.waves.now;
-    }) refl refl are)
+    } in
+    on_ok_weaker c.add_case.result
+    (λ more cases are. record {
+      known = more cases one refl refl are.known;
+      are_waves =
+          waves_more c.args.circuit.now cases one are.are_waves (record {
+            circuit = c.known.ensures;
+            header = c.known_header.ensures;
+            long = c.requires.fit.each_slot;
+          });
+    })
     c.add_case.ensures
