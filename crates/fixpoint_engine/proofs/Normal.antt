@@ -1,13 +1,15 @@
 -- A wave in normal form is its own normal form, and so what code makes of an instance is its value.
-use Rattle.std.proofs.Common.{◌≡◌, ℕ, zero, suc, ◌-◌, ◌<◌, ◌≤◌, min, Bool, true, false, cond, List, length, refl, sym, ap, ◌∙◌, arith, Option}
+use Rattle.std.proofs.Common.{◌≡◌, ℕ, zero, suc, ◌+◌, ◌-◌, ◌<◌, ◌≤◌, min, Bool, true, false, cond, List, length, refl, sym, ap, ◌∙◌, arith, Option}
 use Rattle.std.proofs.lemmas.Bool.{cond_both}
 use Rattle.step_values.specs.declared.value.Value.{Value}
 use Rattle.step_values.specs.Steps.{join}
 use Rattle.step_values.specs.Cell.{values}
 use Rattle.step_values.specs.Lawful.{values_lawful}
-use Rattle.wave_core.specs.Slots.{slots, join_to}
+use Rattle.wave_core.specs.Slots.{slots, join_to, later}
 use Rattle.wave_core.proofs.Slots.{get_or_slots, length_slots}
-use Rattle.skew_algebra.specs.Wave.{Wave, skewed, all_equal, is_steady, joined, cell_at, normal, IsNormal}
+use Rattle.wave_core.proofs.Turned.{folded_none}
+use Rattle.scald_base.specs.Time.{Bounds}
+use Rattle.skew_algebra.specs.Wave.{Wave, skewed, all_equal, is_steady, joined, cell_at, moved, normal, IsNormal}
 use Rattle.skew_algebra.proofs.Cells.{equal_at, same_list}
 use Rattle.skew_algebra.proofs.Normal.{normal_steady, normal_moving}
 use Rattle.flat_circuit.specs.declared.instance.Instance.{Instance}
@@ -47,6 +49,16 @@ normal_same w some fits = by (is_steady values w.cells) refl
         let skew : cond (all_equal values w.cells) 0 (min w.skew (length w.cells - 1)) ≡ w.skew =
         cond_both (all_equal values w.cells) 0 (min w.skew (length w.cells - 1)) (λ (s : ℕ). s ≡ w.skew) (λ e. sym (fits.equal e)) (λ e. omega arith) in
         normal_moving values w q ∙ (λ k. skewed w.cells (skew k))
+
+-- a wave that is not late
+pub moved_none : (w : Wave Value) (wire : Bounds) → 0 < length w.cells → IsNormal values w → wire.min ≡ 0 → wire.max ≡ 0 →
+    moved values w wire ≡ w
+unfolding moved
+moved_none w wire some fits least greatest =
+    let none : w.skew + (wire.max - wire.min) ≡ w.skew = omega (arith, least, greatest) in
+    let still : later values w.cells wire.min ≡ w.cells =
+    ap (later values w.cells) least ∙ folded_none values w.cells in
+    (λ k. normal values (skewed (still k) (none k))) ∙ normal_same w some fits
 
 pub instance_is : (c : Circuit) (ws : Waves) (j : Instance) (waves : List (Wave Value)) (marked : Option ℕ) (inverted : Bool) (made result : Wave Value) → j.out_inverted ≡ inverted →
     0 < length result.cells → IsNormal values result → waves ≡ pin_waves c ws j → marked ≡ marked_pin j → made ≡ made_by j.kind waves marked j.delay j.split →

@@ -183,7 +183,7 @@ impl<W: CyclicWave<Item = Value>, K: Evaluated> Evaluations<W, K> {
         ensures same { IfOk result (λ here.
             waves_at self.new here ≡ waves_at table.now numbers.now) }
     {
-        let mut here: Numbers = List::new(alloc);
+        let mut here: Numbers = List::with_room(alloc, numbers.len())?;
         for number in numbers {
             let wave = table.wave(*number).copy(alloc)?;
             let given = self.number(wave)?;

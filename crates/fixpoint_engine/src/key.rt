@@ -11,9 +11,9 @@ ghost use Rattle.fixpoint_engine.specs.Key.{AreConstants, IsKeyOf, pin_word, sho
 
 use crate::{Evaluated, Evaluations, wire_behind};
 use element_kinds::Kind;
-use flat_circuit::{Circuit, Instance, Pin, Target};
+use flat_circuit::{Circuit, Instance, Pin, ShortList, Target};
 use pin_waves::constant_wave;
-use scald_base::{Delay, Header, List, NoMemory};
+use scald_base::{Delay, Header, NoMemory};
 use std::alloc::Global;
 use std::hash::{Hash, Hasher};
 use step_values::Value;
@@ -54,7 +54,8 @@ impl Hash for KeyPin {
 }
 
 /// What the output of an element depends on. With two delays the bounds of each stand here, and
-/// else 0; the least and the greatest delay are then those of both.
+/// else 0; the least and the greatest delay are then those of both. Most elements have one pin or
+/// two, whose key needs no allocation.
 #[derive(PartialEq, Eq, Drop)]
 pub struct Key {
     pub kind: Kind,
@@ -66,7 +67,7 @@ pub struct Key {
     pub fall_least: u16,
     pub fall_greatest: u16,
     pub inverted: bool,
-    pub pins: List<KeyPin>,
+    pub pins: ShortList<KeyPin>,
 }
 
 /// What a key takes beside its pins, in words of four bytes, and what each pin takes.
@@ -184,7 +185,7 @@ fn key_pins(
     constants: Constants,
     numbers: &[u32],
     pins: &[Pin],
-) -> Result<List<KeyPin>, NoMemory>
+) -> Result<ShortList<KeyPin>, NoMemory>
     requires exist { All (PinExists (length c.now.nets)) pins.now }
     requires each_net { length numbers.now ≡ length c.now.nets }
     ensures marks { IfOk result (λ keys. map (λ p. p.hold) keys ≡ map (λ p. p.hold) pins.now) }
@@ -196,7 +197,7 @@ fn key_pins(
         map (λ p. shown_by p (wave_at table p.wave)) keys
         ≡ map (wave_shown c.now (waves_of (waves_at table numbers.now))) pins.now) }
 {
-    let mut keys = List::new(alloc);
+    let mut keys = ShortList::with_room(alloc, pins.len())?;
     for pin in pins {
         keys.push(key_pin(c, constants, numbers, *pin))?;
     }

@@ -23,7 +23,7 @@ pub fn numbers_of<W: CyclicWave<Item = Value>>(
     ensures known { IfOk result (AreKnown table.new) }
     ensures same { IfOk result (λ numbers. waves_at table.new numbers ≡ waves.now) }
 {
-    let mut numbers: Numbers = List::new(alloc);
+    let mut numbers: Numbers = List::with_room(alloc, waves.len())?;
     for wave in waves {
         let number = table.number(wave.copy(alloc)?)?;
         numbers.push(number)?;
@@ -45,7 +45,7 @@ pub fn renumbered<W: CyclicWave<Item = Value>>(
     ensures same { IfOk result (λ there.
         waves_at other.new there ≡ waves_at table.now numbers.now) }
 {
-    let mut there: Numbers = List::new(alloc);
+    let mut there: Numbers = List::with_room(alloc, numbers.len())?;
     for number in numbers {
         let wave = table.wave(*number).copy(alloc)?;
         let given = other.number(wave)?;
@@ -58,7 +58,7 @@ pub fn renumbered<W: CyclicWave<Item = Value>>(
 pub fn copied(alloc: Global, numbers: &[u32]) -> Result<Numbers, NoMemory>
     ensures { IfOk result (λ same. same ≡ numbers.now) }
 {
-    let mut same: Numbers = List::new(alloc);
+    let mut same: Numbers = List::with_room(alloc, numbers.len())?;
     for number in numbers {
         same.push(*number)?;
     }
