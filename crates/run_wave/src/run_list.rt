@@ -86,6 +86,7 @@ impl<T: Cell + Drop> RunList<T> {
     }
 
     /// Appends `width` slots of a cell.
+    #[inline(always)]
     pub fn push(&mut self, cell: T, width: u16) -> Result<(), NoMemory>
         requires { self.old.slots + width < 2 ^ 16 }
         ensures { OnOk result (cells_of self.new.runs.items
@@ -290,6 +291,7 @@ impl<T: Cell + Drop> RunList<T> {
     }
 
     /// What is to come after `width` slots of the run that comes next.
+    #[inline(always)]
     pub fn after(&self, rest: &Rest<T>, width: u16) -> Rest<T>
         requires { width ≤ rest.now.run.width }
         ensures cells { cells_of (rest.now.run ∷ drop rest.now.next self.now.runs.items)
