@@ -1,7 +1,7 @@
 #!/bin/sh
 # What the built program answers to `slack` and `explain` on the drawings of checks/slack: of those with a text NAME.out
 # the whole table, and the paragraphs after it; of the others lines that were worked out by hand, in their order.
-# Usage: checks/slack.sh [PROGRAM]. Where none is named and none is built it says so and ends with 0.
+# Usage: checks/slack.sh [PROGRAM]. If none is named and none is built it says so and ends with 0.
 . "$(dirname -- "$0")/common.sh"
 begin "${1-}"
 folder=$top/checks/slack
@@ -47,7 +47,7 @@ whole other_edge 1
 whole offset 1
 # 15 ticks off a pulse of 10 leave none
 whole swallowed 1
-# a change after the clock's fall is told by the fall
+# a change after the clock's fall is shown with the fall
 whole after_fall 1
 # a change right after the clock's rise has a number too
 whole clock_early 1
@@ -61,17 +61,29 @@ rows slack broken_first 1 '  39*  HOLD 5    c1<0>     6' '   10  HIGH 190  w1<0>
 rows slack latch 1 '   20  SETUP 20  c2<0>     6' 'BROKEN 1'
 rows slack loop 1 ' none  SETUP 20  c1<0>     5' 'BROKEN 1'
 rows slack two 1 '  -40  SETUP 40  c1<0>     7' '   19  HOLD 5    c1<0>     7' 'BROKEN 1'
+# bits with one sum are one row if one register of the drawing launches their data, and not if two do; nor are those of
+# two uses of a macro
+rows slack registers 0 \
+    '    0  HOLD 4    c1<0:1>     9' \
+    '    0  HOLD 4    c1<2>       9' \
+    '    0  HOLD 4    u/c1<0>     4' \
+    '    0  HOLD 4    v/c1<0>     4' \
+    '  370  SETUP 20  c1<0:1>     9' \
+    '  370  SETUP 20  c1<2>       9' \
+    '  370  SETUP 20  u/c1<0>     4' \
+    '  370  SETUP 20  v/c1<0>     4' \
+    'MET 10'
 
 # the latest change of an open latch is bounded by its enable
 rows 'explain worst=2' latch 1 \
     '         160    +10  Q changes   l1 LATCH [5:10] line 4, bounded by pin 0 (IN goes on changing)' \
     '   may change until 200 - 20 = 180, changes at 160: 20 to spare'
-# two ways from one launch, of which the longer one is told
+# two ways from one launch, of which the longer one is shown
 rows explain two 1 \
     '         360   +350  S changes  g1 CHG [150:350] line 5' \
     '         400    +40  D changes  m1 CHG [20:40] line 6' \
     '   launched 400 ticks before the edge of the check'
-# data that never rests is told by its ways
+# data that never settles is shown with its ways
 rows explain never 1 \
     '         510   +500  D changes  g1 CHG [40:500] line 5' \
     '   may change until 400 - 20 = 380, changes at 510: 130 too late' \

@@ -1,5 +1,5 @@
 -- What arrivals leave as it was.
-use Rattle.std.proofs.Common.{◌≡◌, ℕ, ◌<◌, ◌≤◌, List, [], ◌∷◌, ◌++◌, length, slice_get, refl, sym, subst, arith, append-nil, Option, Some, None, ℤ, pos, negsuc}
+use Rattle.std.proofs.Common.{◌≡◌, ℕ, zero, suc, ◌<◌, ◌≤◌, List, [], ◌∷◌, ◌++◌, length, slice_get, refl, sym, subst, arith, append-nil, Option, Some, None, ℤ, pos, negsuc}
 use Rattle.std.specs.Prelude.{unsigned_abs}
 use Rattle.std.proofs.lemmas.Int.{ints}
 use Rattle.std.proofs.lemmas.Option.{slice_get_within}
@@ -8,7 +8,7 @@ use Rattle.flat_circuit.specs.Circuit.{Circuit, driver_at, driver_in}
 use Rattle.fixpoint_engine.specs.Waves.{Waves}
 use Rattle.critical_paths.specs.declared.event.Stop.{Stop}
 use Rattle.critical_paths.specs.declared.path.Node.{Node}
-use Rattle.critical_paths.specs.Told.{Grows, IsNear, Knows}
+use Rattle.critical_paths.specs.Known.{Grows, IsNear, Knows}
 use Rattle.critical_paths.proofs.Memo.{knows_more}
 
 -- no node more, and one
@@ -44,3 +44,9 @@ driven_within nets i k driven = by (slice_get nets i) refl driven
     by : (o : Option Net) → slice_get nets i ≡ o → driver_in o ≡ Some k → i < length nets
     by None at driven = absurd (cc)
     by (Some n) at driven = slice_get_within nets i n at
+
+-- what stands in a list is not past its end
+pub not_past : {A : Type 0} (xs : List A) (k : ℕ) → k < length xs → slice_get xs k ≡ None → ⊥
+not_past [] k below none = absurd (omega (arith, below))
+not_past (x ∷ xs) zero below none = absurd (cc)
+not_past (x ∷ xs) (suc k) below none = not_past xs k (omega (arith, below)) none

@@ -16,10 +16,10 @@ use Rattle.critical_paths.specs.declared.common.Part.TheVariants.{Delay, RiseOf,
 use Rattle.critical_paths.specs.declared.direction.Direction.{Direction}
 use Rattle.critical_paths.specs.declared.path.Node.{Node}
 use Rattle.critical_paths.specs.declared.path.Passage.{Passage}
-use Rattle.critical_paths.specs.Common.{counted_twice_told, delay_parts, driver_parts, is_part_of, is_twice, link_parts, node_parts, of_both, once_from, parts, same_part, source_parts, step_parts, through_parts, wire_parts}
+use Rattle.critical_paths.specs.Common.{counted_twice_known, delay_parts, driver_parts, is_part_of, is_twice, link_parts, node_parts, of_both, once_from, parts, same_part, source_parts, step_parts, through_parts, wire_parts}
 use Rattle.critical_paths.specs.Event.{Event, turned}
 use Rattle.critical_paths.specs.Path.{End, Path}
-use Rattle.critical_paths.specs.Told.{end_of, link_on, path_on, path_told, rest_of, told_by, way_by, way_of}
+use Rattle.critical_paths.specs.Known.{end_of, link_on, path_on, path_known, rest_of, known_by, way_by, way_of}
 use Rattle.critical_paths.specs.Walk.{link}
 use Rattle.critical_paths.proofs.Origins.{fits_at, split_counts}
 use Rattle.critical_paths.proofs.Stepping.{drop_end, drop_here}
@@ -132,11 +132,11 @@ module _ (c : Circuit) (end : End) where
 
 -- of what the node of a number tells
 pub parts_told : (c : Circuit) (nodes : List Node) (i : ℕ) (n : Node) → slice_get nodes i ≡ Some n →
-    Some (parts_from c (end_of n.end) (way_of nodes i)) ≡ option_map (parts c) (path_told nodes i)
+    Some (parts_from c (end_of n.end) (way_of nodes i)) ≡ option_map (parts c) (path_known nodes i)
 parts_told c nodes i n at =
     ap (λ (o : Option Node). Some (parts_from c (end_of n.end) (way_by nodes o))) at
     ∙ sym (ap Some (parts_are c (end_of n.end) n (rest_of nodes n)))
-    ∙ sym (ap (λ (o : Option Node). option_map (parts c) (told_by nodes o)) at)
+    ∙ sym (ap (λ (o : Option Node). option_map (parts c) (known_by nodes o)) at)
 
 -- ---- those of both
 
@@ -271,7 +271,7 @@ module _ (other : List Counted) where
 pub both_told : (c : Circuit) (one other : Option Path) (own more found : List Counted) →
     Some own ≡ option_map (parts c) one →
     Some more ≡ option_map (parts c) other → found ≡ of_both own more →
-    Some found ≡ counted_twice_told c one other
+    Some found ≡ counted_twice_known c one other
 both_told c None other own more found own_is more_is is = absurd (cc)
 both_told c (Some path) None own more found own_is more_is is = absurd (cc)
 both_told c (Some path) (Some clock) own more found own_is more_is is =

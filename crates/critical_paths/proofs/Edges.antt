@@ -27,7 +27,7 @@ use Rattle.critical_paths.specs.Walk.{event_at}
 use Rattle.critical_paths.specs.Launch.{corner_by, edge_by, edge_of, edge_slot, is_edge, offset, offset_if_edge, offset_at, offset_by, offset_in, offset_of, offset_read, source_tick, taken, ticks_of}
 use Rattle.critical_paths.specs.Tick.{slot_of}
 use Rattle.critical_paths.proofs.Ticks.{slot_back}
-use Rattle.critical_paths.specs.Told.{IsAge, Tells, edge_if, edge_told, end_of, last_on, link_on, path_on, rest_of, ticks_by, ticks_on, told_edge}
+use Rattle.critical_paths.specs.Known.{IsAge, Tells, edge_if, edge_known, end_of, last_on, link_on, path_on, rest_of, ticks_by, ticks_on, edge_pair}
 
 -- ---- the slot of an edge
 
@@ -107,8 +107,8 @@ pub edge_is : (c : Circuit) (ws : Waves) (nodes : List Node) (among : Stop → B
     (n : Node) (corner : Corner) (tick : ℤ) →
     Tells c ws nodes among s n → (last_on n (rest_of nodes n)).reading ≡ Folded →
     (last_on n (rest_of nodes n)).corner ≡ corner →
-    edge_told tick (Some n)
-    ≡ option_map told_edge (edge_of c corner tick (path_on (end_of n.end) n (rest_of nodes n)))
+    edge_known tick (Some n)
+    ≡ option_map edge_pair (edge_of c corner tick (path_on (end_of n.end) n (rest_of nodes n)))
 edge_is c ws nodes among s n corner tick tells folded last_corner = by n.end tells.age
   where
     last : Stop
@@ -141,7 +141,7 @@ edge_is c ws nodes among s n corner tick tells folded last_corner = by n.end tel
 
     by : (e : Ending) → IsAge c ws e last (ticks_on n (rest_of nodes n)) n.age →
         edge_if e n.source (tick -ℤ n.age)
-        ≡ option_map told_edge (edge_of c corner tick (path_on (end_of e) n (rest_of nodes n)))
+        ≡ option_map edge_pair (edge_of c corner tick (path_on (end_of e) n (rest_of nodes n)))
     by Edge (after, off, sum) =
         let path = path_on (end_of Edge) n (rest_of nodes n) in
         let ticks = path_taken (end_of Edge) n (rest_of nodes n) in
@@ -149,11 +149,11 @@ edge_is c ws nodes among s n corner tick tells folded last_corner = by n.end tel
         (tells.source ∙ ap (λ (e : Event). e.net)
         (sym (path_last (end_of Edge) n (rest_of nodes n))))
         (omega (arith, ints, sum, ticks))
-        ∙ sym (ap (option_map told_edge) (by_source Edge refl (Some after) off))
-    by AtSource (none, sum) = sym (ap (option_map told_edge) (by_source AtSource refl None none))
-    by InLoop sum = sym (ap (λ (e : End). option_map told_edge
+        ∙ sym (ap (option_map edge_pair) (by_source Edge refl (Some after) off))
+    by AtSource (none, sum) = sym (ap (option_map edge_pair) (by_source AtSource refl None none))
+    by InLoop sum = sym (ap (λ (e : End). option_map edge_pair
         (edge_by c corner tick (path_on Loop n (rest_of nodes n)) e))
         (path_end Loop n (rest_of nodes n)))
-    by ByNothing sum = sym (ap (λ (e : End). option_map told_edge
+    by ByNothing sum = sym (ap (λ (e : End). option_map edge_pair
         (edge_by c corner tick (path_on Nothing n (rest_of nodes n)) e))
         (path_end Nothing n (rest_of nodes n)))

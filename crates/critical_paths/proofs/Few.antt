@@ -19,7 +19,7 @@ use Rattle.scald_base.specs.Time.{period}
 use Rattle.flat_circuit.specs.Circuit.{Circuit}
 use Rattle.fixpoint_engine.specs.Waves.{Waves}
 use Rattle.critical_paths.specs.Walk.{event_count, origin_of, same_stop, stop_count}
-use Rattle.critical_paths.specs.Told.{Goes, IsShort, IsStop}
+use Rattle.critical_paths.specs.Known.{Goes, IsShort, IsStop}
 use Rattle.critical_paths.proofs.Stops.{stop_from, stop_self}
 
 abbrev number_of_direction : Direction → ℕ

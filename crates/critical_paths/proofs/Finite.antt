@@ -18,7 +18,7 @@ use Rattle.critical_paths.specs.Event.{Event, same_direction, same_event}
 use Rattle.critical_paths.specs.Path.{End, Link, Loop, Nothing, Path, Source}
 use Rattle.critical_paths.specs.Unfolded.{Read}
 use Rattle.critical_paths.specs.Walk.{ending, event_at, event_count, link, linked, origin_by, origin_from, origin_of, path_after, path_from, path_of_stop, read_at, reading_of, same_stop, stop_count, stop_of}
-use Rattle.critical_paths.specs.Told.{IsStop}
+use Rattle.critical_paths.specs.Known.{IsStop}
 use Rattle.critical_paths.specs.Laws.{EndsAt, PathsAreFinite}
 use Rattle.critical_paths.proofs.Few.{IsFolded, few_folded, none_same}
 use Rattle.critical_paths.proofs.Linked.{origin_folded, stays_folded}

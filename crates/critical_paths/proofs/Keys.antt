@@ -18,7 +18,7 @@ use Rattle.critical_paths.specs.contracts.event.Reading.{the_type as readings}
 use Rattle.critical_paths.specs.contracts.event.StopPartialEq.TheImpl.{eq-value}
 use Rattle.critical_paths.specs.Event.{same_direction}
 use Rattle.critical_paths.specs.Walk.{same_corner, same_reading, same_stop}
-use Rattle.critical_paths.specs.Told.{Has, are_met}
+use Rattle.critical_paths.specs.Known.{Has, are_met}
 use Rattle.critical_paths.proofs.Stops.{stop_is}
 
 same_directions : (a b : Direction) → sameb directions a b ≡ same_direction a b

@@ -2,6 +2,7 @@ pub mod Circuits
 mod ExamplesPaths
 mod ExamplesLaunches
 mod ExamplesEnds
+mod ExamplesWires
 pub mod Searches
 pub mod Runs
 pub mod Linked

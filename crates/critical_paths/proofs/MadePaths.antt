@@ -15,7 +15,7 @@ use Rattle.critical_paths.specs.declared.path.Node.{Node}
 use Rattle.critical_paths.specs.Event.{Event}
 use Rattle.critical_paths.specs.Launch.{edge_of}
 use Rattle.critical_paths.specs.Path.{Path}
-use Rattle.critical_paths.specs.Told.{Goes, Grows, Has, IsNear, IsShortAt, IsShortPath, IsSmall, IsStop, Knows, are_met, edge_in, edge_told, last_on, path_told, rest_of, told_by, told_edge}
+use Rattle.critical_paths.specs.Known.{Goes, Grows, Has, IsNear, IsShortAt, IsShortPath, IsSmall, IsStop, Knows, are_met, edge_in, edge_known, last_on, path_known, rest_of, known_by, edge_pair}
 use Rattle.critical_paths.specs.Walk.{reading_of, stop_of}
 use Rattle.critical_paths.proofs.Edges.{edge_is}
 use Rattle.critical_paths.proofs.Few.{IsFolded}
@@ -39,7 +39,7 @@ node_kept old new grows i less =
 
 pub edge_kept : (old new : List Node) → Grows old new → (at : At) → at.node < length old →
     edge_in new at ≡ edge_in old at
-edge_kept old new grows at less = ap (edge_told at.tick) (node_kept old new grows at.node less)
+edge_kept old new grows at less = ap (edge_known at.tick) (node_kept old new grows at.node less)
 
 pub short_kept : (old new : List Node) → Grows old new → (at : At) → at.node < length old →
     IsShortPath old at → IsShortPath new at
@@ -47,20 +47,20 @@ short_kept old new grows at less short =
     subst (IsShortAt at.tick) (sym (node_kept old new grows at.node less)) short
 
 -- what tells a path is there
-pub told_within : (nodes : List Node) (i : ℕ) (path : Path) → path_told nodes i ≡ Some path →
+pub told_within : (nodes : List Node) (i : ℕ) (path : Path) → path_known nodes i ≡ Some path →
     i < length nodes
 told_within nodes i path told = by (slice_get nodes i) refl told
   where
-    by : (o : Option Node) → slice_get nodes i ≡ o → told_by nodes o ≡ Some path → i < length nodes
+    by : (o : Option Node) → slice_get nodes i ≡ o → known_by nodes o ≡ Some path → i < length nodes
     by None is told = absurd (cc)
     by (Some n) is told = slice_get_within nodes i n is
 
 pub path_kept : (c : Circuit) (ws : Waves) (old new : List Node) (met : List (Stop × ℕ)) (s : Stop)
     (i : ℕ) → Knows c ws old met →
-    Has met s i → Grows old new → path_told new i ≡ path_told old i
+    Has met s i → Grows old new → path_known new i ≡ path_known old i
 path_kept c ws old new met s i knows has grows =
     let later = knows_more c ws old grows.more met knows in
-    ap (λ (l : List Node). path_told l i) grows.is
+    ap (λ (l : List Node). path_known l i) grows.is
     ∙ told_is c ws (old ++ grows.more) (are_met met) s i (later.each s i has)
     ∙ sym (told_is c ws old (are_met met) s i (knows.each s i has))
 
@@ -93,18 +93,18 @@ module _ (c : Circuit) (ws : Waves) (is : IsCircuit c) (some : 0 < period c.head
   pub known_edge : (nodes : List Node) (met : List (Stop × ℕ)) (s : Stop) (at : At) →
       Knows c ws nodes met → Has met s at.node →
       IsStop c corner s → s.reading ≡ Folded →
-      edge_in nodes at ≡ option_map told_edge (option_and_then (edge_of c corner at.tick)
-      (path_told nodes at.node))
+      edge_in nodes at ≡ option_map edge_pair (option_and_then (edge_of c corner at.tick)
+      (path_known nodes at.node))
   known_edge nodes met s at knows has stop folded =
       let known = knows.each s at.node has in
       let n = known.node in
       let own : IsFolded c corner n.stop = subst (IsFolded c corner) (sym known.tells.of)
       (record { stop = stop; folded = folded }) in
       let last = last_folded n.end [] n (rest_of nodes n) own known.tells.goes in
-      ap (edge_told at.tick) known.is
+      ap (edge_known at.tick) known.is
       ∙ edge_is c ws nodes (are_met met) s n corner at.tick known.tells last.folded last.stop.side
-      ∙ sym (ap (λ (o : Option Node). option_map told_edge
-      (option_and_then (edge_of c corner at.tick) (told_by nodes o))) known.is)
+      ∙ sym (ap (λ (o : Option Node). option_map edge_pair
+      (option_and_then (edge_of c corner at.tick) (known_by nodes o))) known.is)
 
   -- what is asked by folds is read so
   pub reads_folds : (reading : Reading) (e : Event) → reading ≡ Folded →

@@ -14,7 +14,7 @@ use Rattle.flat_circuit.specs.Circuit.{Circuit}
 use Rattle.fixpoint_engine.specs.Waves.{Waves}
 use Rattle.critical_paths.specs.Launch.{ticks_of}
 use Rattle.critical_paths.specs.Walk.{origin_of, path_from, path_of_stop, same_stop, stop_count}
-use Rattle.critical_paths.specs.Told.{Goes, IsShort, IsStop, IsAge, IsKnown, IsNear, Knows, Tells, are_met, last_on, node_before, path_told, rest_of, ticks_on, told_by}
+use Rattle.critical_paths.specs.Known.{Goes, IsShort, IsStop, IsAge, IsKnown, IsNear, Knows, Tells, are_met, last_on, node_before, path_known, rest_of, ticks_on, known_by}
 use Rattle.critical_paths.proofs.Stops.{has_more, met_more, stop_is, stop_self}
 use Rattle.critical_paths.proofs.Nodes.{get_more, rest_before, rest_more}
 use Rattle.critical_paths.proofs.Trails.{ApartFrom, goes_before, goes_path}
@@ -102,14 +102,14 @@ module _ (c : Circuit) (ws : Waves) where
 
   pub told_is : (nodes : List Node) (among : Stop → Bool) (s : Stop) (i : ℕ) →
       IsKnown c ws nodes among s i →
-      path_told nodes i ≡ Some (path_of_stop c ws s)
+      path_known nodes i ≡ Some (path_of_stop c ws s)
   unfolding path_of_stop
   told_is nodes among s i known =
       let n = known.node in
       let few = known.tells.few in
       let count = known.tells.count in
       let short : length (rest_of nodes n) < stop_count c + 1 = omega (arith, few, count) in
-      ap (told_by nodes) known.is
+      ap (known_by nodes) known.is
       ∙ ap Some (sym (goes_path c ws (stop_count c + 1) [] n.end n (rest_of nodes n) short
       known.tells.goes)
       ∙ ap (path_from c ws (stop_count c + 1) []) known.tells.of)

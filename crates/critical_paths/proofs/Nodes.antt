@@ -1,7 +1,7 @@
 -- Nodes that come to others change nothing of these.
 use Rattle.std.proofs.Common.{◌≡◌, ℕ, zero, suc, ◌+◌, ◌-◌, List, [], ◌∷◌, ◌++◌, length, slice_get, refl, sym, ap, ◌∙◌, arith, Option, Some, None, append-nil, append_assoc}
 use Rattle.critical_paths.specs.declared.path.Node.{Node}
-use Rattle.critical_paths.specs.Told.{nodes_on, on_from, rest_of}
+use Rattle.critical_paths.specs.Known.{nodes_on, on_from, rest_of}
 
 pub get_more : {X : Type 0} (xs ys : List X) (i : ℕ) (x : X) → slice_get xs i ≡ Some x →
     slice_get (xs ++ ys) i ≡ Some x

@@ -21,7 +21,7 @@ use Rattle.critical_paths.specs.declared.back.Back.{Back}
 use Rattle.critical_paths.specs.Event.{turned}
 use Rattle.critical_paths.specs.Path.{Before, before}
 use Rattle.critical_paths.specs.Tick.{slot_of}
-use Rattle.critical_paths.specs.Told.{LeadsWithin}
+use Rattle.critical_paths.specs.Known.{LeadsWithin}
 use Rattle.critical_paths.specs.Unfolded.{Read, by_folds, end_delay, mover, read_by}
 use Rattle.critical_paths.specs.Views.{event_of, read_of}
 use Rattle.critical_paths.specs.Walk.{origin_by, origin_from, origin_of, read_at, stop_of}

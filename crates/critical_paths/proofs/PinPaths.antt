@@ -14,7 +14,7 @@ use Rattle.critical_paths.specs.declared.event.Reading.TheVariants.{Folded}
 use Rattle.critical_paths.specs.Event.{turned}
 use Rattle.critical_paths.specs.Path.{Path, choices, event_before, is_event}
 use Rattle.critical_paths.specs.Tick.{slot_of}
-use Rattle.critical_paths.specs.Told.{pin_path_by}
+use Rattle.critical_paths.specs.Known.{pin_path_by}
 use Rattle.critical_paths.specs.Views.{Hidden, behind, behind_at}
 use Rattle.critical_paths.specs.Walk.{PinPath, end_path_of, end_path_on, path_of, path_of_stop, pin_path_at, pin_path_on, stop_of}
 use Rattle.critical_paths.proofs.Ticks.{slot_back}

@@ -13,7 +13,7 @@ use Rattle.critical_paths.specs.declared.path.End.TheVariants.{Loop as InLoop}
 use Rattle.flat_circuit.specs.Circuit.{Circuit}
 use Rattle.fixpoint_engine.specs.Waves.{Waves}
 use Rattle.critical_paths.specs.Walk.{origin_of, same_stop, stop_count}
-use Rattle.critical_paths.specs.Told.{Goes, IsAge, IsNear, Tells, last_on, nodes_on, on_from, rest_of, ticks_by, ticks_on}
+use Rattle.critical_paths.specs.Known.{Goes, IsAge, IsNear, Tells, last_on, nodes_on, on_from, rest_of, ticks_by, ticks_on}
 use Rattle.critical_paths.proofs.Stops.{stop_self}
 
 -- the place of the k-th event round a round of n, where k is less than twice as many

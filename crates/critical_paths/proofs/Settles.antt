@@ -14,8 +14,8 @@ use Rattle.flat_circuit.specs.Circuit.{Circuit}
 use Rattle.fixpoint_engine.specs.Waves.{Waves}
 use Rattle.critical_paths.specs.Launch.{ticks_of}
 use Rattle.critical_paths.specs.Walk.{origin_of, same_stop, stop_count}
-use Rattle.critical_paths.specs.Told.{IsSmall}
-use Rattle.critical_paths.specs.Told.{AreApart, AreNew, AreStops, Grows, Has, IsBegun, IsNear, IsShort, IsShortNode, IsStop, Knows, Leads, Tells, are_met, node_before, stop_after, stop_in}
+use Rattle.critical_paths.specs.Known.{IsSmall}
+use Rattle.critical_paths.specs.Known.{AreApart, AreNew, AreStops, Grows, Has, IsBegun, IsNear, IsShort, IsShortNode, IsStop, Knows, Leads, Tells, are_met, node_before, stop_after, stop_in}
 use Rattle.critical_paths.proofs.Stops.{met_more, stop_self, stop_turned}
 use Rattle.critical_paths.proofs.Nodes.{get_end, get_more}
 use Rattle.critical_paths.proofs.Memo.{knows_more, knows_one, tells_before, tells_more}

@@ -30,7 +30,7 @@ use Rattle.critical_paths.specs.Event.{Event, opposite, turned}
 use Rattle.critical_paths.specs.Path.{Arc, Before, arc_in, arc_inward, asks, before, before_arc, before_by, before_pin, before_target, before_wire, choices, cut, cut_at, cut_by, cut_off, cut_own, event_before, firm_arc, free_arc, is_cut_by, is_event}
 use Rattle.critical_paths.specs.Unfolded.{Read, by_folds, end_delay, mover, open_arc, open_before, open_pin, open_target, read_by, with_word}
 use Rattle.critical_paths.specs.Walk.{event_at, origin_by, origin_from, origin_of, read_at, reading_of, stop_of}
-use Rattle.critical_paths.specs.Told.{IsShort, IsStop, LeadsWithin}
+use Rattle.critical_paths.specs.Known.{IsShort, IsStop, LeadsWithin}
 use Rattle.critical_paths.proofs.Linked.{first_if, kept_if, or_if, then_if}
 
 map_if : {A B : Type 0} (P : B → Type 0) (f : A → B) (o : Option A) → IfSome o (λ a. P (f a)) →

@@ -3,7 +3,7 @@ use Rattle.std.proofs.Common.{◌≡◌, ℕ, zero, suc, ◌+◌, ◌-◌, ◌^�
 use Rattle.std.proofs.lemmas.Option.{same_Some}
 use Rattle.critical_paths.specs.declared.path.Node.{Node}
 use Rattle.critical_paths.specs.declared.path.Step.{Step}
-use Rattle.critical_paths.specs.Told.{IsNear, IsShortAt, nodes_on, on_from, step_at, steps_from, ticks_by, way_by, way_of}
+use Rattle.critical_paths.specs.Known.{IsNear, IsShortAt, nodes_on, on_from, step_at, steps_from, ticks_by, way_by, way_of}
 
 pub drop_here : {X : Type 0} (xs : List X) (k : ℕ) (x : X) → slice_get xs k ≡ Some x →
     drop k xs ≡ x ∷ drop (k + 1) xs

@@ -10,7 +10,7 @@ use Rattle.critical_paths.specs.declared.event.Reading.TheVariants.{Folded, Unfo
 use Rattle.critical_paths.specs.declared.event.Stop.{Stop}
 use Rattle.critical_paths.specs.Event.{same_direction}
 use Rattle.critical_paths.specs.Walk.{same_corner, same_reading, same_stop}
-use Rattle.critical_paths.specs.Told.{Has, are_met}
+use Rattle.critical_paths.specs.Known.{Has, are_met}
 
 direction_is : (a b : Direction) → same_direction a b ≡ true → a ≡ b
 direction_is Rise Rise h = refl

@@ -11,7 +11,7 @@ use Rattle.flat_circuit.specs.Circuit.{Circuit}
 use Rattle.fixpoint_engine.specs.Waves.{Waves}
 use Rattle.critical_paths.specs.Path.{Loop}
 use Rattle.critical_paths.specs.Walk.{ending, link, linked, origin_of, path_after, path_from, same_stop}
-use Rattle.critical_paths.specs.Told.{Goes, IsEnd, end_of, link_on, path_on}
+use Rattle.critical_paths.specs.Known.{Goes, IsEnd, end_of, link_on, path_on}
 
 -- no node of a path is at this stop
 abbrev pub ApartFrom : Stop → Node → List Node → Type 0

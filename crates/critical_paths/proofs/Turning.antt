@@ -13,7 +13,7 @@ use Rattle.flat_circuit.specs.Circuit.{Circuit}
 use Rattle.fixpoint_engine.specs.Waves.{Waves}
 use Rattle.critical_paths.specs.Launch.{ticks_of}
 use Rattle.critical_paths.specs.Walk.{origin_of, same_stop, stop_count}
-use Rattle.critical_paths.specs.Told.{AreApart, AreNew, Has, IsBegun, IsKnown, IsNear, IsNumberOf, IsNumbered, IsRound, Knows, Leads, are_met, round_node, stop_after, stop_in, ticks_along}
+use Rattle.critical_paths.specs.Known.{AreApart, AreNew, Has, IsBegun, IsKnown, IsNear, IsNumberOf, IsNumbered, IsRound, Knows, Leads, are_met, round_node, stop_after, stop_in, ticks_along}
 use Rattle.critical_paths.proofs.Stops.{has_more, met_more, met_of, stop_turned}
 use Rattle.critical_paths.proofs.Nodes.{get_end, get_more}
 use Rattle.critical_paths.proofs.Memo.{known_more}

@@ -11,7 +11,7 @@ use Rattle.critical_paths.specs.declared.path.Origin.TheVariants.{Earlier}
 use Rattle.flat_circuit.specs.Circuit.{Circuit}
 use Rattle.fixpoint_engine.specs.Waves.{Waves}
 use Rattle.critical_paths.specs.Walk.{origin_of, same_stop, stop_count}
-use Rattle.critical_paths.specs.Told.{AreApart, AreStops, IsEntry, IsShort, IsStop, Walked, are_met, stop_after}
+use Rattle.critical_paths.specs.Known.{AreApart, AreStops, IsEntry, IsShort, IsStop, Walked, are_met, stop_after}
 use Rattle.critical_paths.proofs.Few.{few_stops}
 
 abbrev Entry : Type 0

@@ -147,7 +147,7 @@ counted_twice c one other = of_both (parts c one) (parts c other)
 abbrev pub credit : List Counted → ℕ
 credit counted = sum_by (λ (x : Counted). x.amount) counted
 
-abbrev pub counted_twice_told : Circuit → Option Path → Option Path → Option (List Counted)
-counted_twice_told c None other = None
-counted_twice_told c (Some one) None = None
-counted_twice_told c (Some one) (Some other) = Some (counted_twice c one other)
+abbrev pub counted_twice_known : Circuit → Option Path → Option Path → Option (List Counted)
+counted_twice_known c None other = None
+counted_twice_known c (Some one) None = None
+counted_twice_known c (Some one) (Some other) = Some (counted_twice c one other)

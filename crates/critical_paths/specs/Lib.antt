@@ -6,7 +6,7 @@ pub mod Image
 pub mod Path
 pub mod Unfolded
 pub mod Walk
-pub mod Told
+pub mod Known
 pub mod Launch
 pub mod Arrival
 pub mod Common

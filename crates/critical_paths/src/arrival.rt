@@ -1,11 +1,16 @@
 //! Arrivals: of each edge of a clock the last tick at which a net may change by it, or the first,
 //! over all ways, whatever else the elements on them do.
 
-ghost use Rattle.std.specs.Prelude.{◌≡◌, ◌^◌, ◌<◌, ◌≤◌, length, IfOk, IfSome, OnOk, None, true};
+ghost use Rattle.std.specs.Prelude.{◌≡◌, ◌==◌, ℕ, ◌^◌, ◌<◌, ◌≤◌, length, slice_get, IfOk, IfSome, OnOk, Some, true};
+ghost use Rattle.flat_circuit.specs.declared.instance.Pin.{Pin};
+ghost use Rattle.flat_circuit.specs.Circuit.{wire_at};
+ghost use Rattle.critical_paths.specs.Arrival.{pin_direction};
+ghost use Rattle.critical_paths.specs.Event.{turned};
+ghost use Rattle.critical_paths.specs.Path.{bound};
 ghost use Rattle.fixpoint_engine.specs.Waves.{waves_of};
 ghost use Rattle.critical_paths.specs.Tick.{IsWithin};
-ghost use Rattle.critical_paths.specs.Told.{Grows, IsShort, Knows};
-ghost use Rattle.critical_paths.specs.Views.{Sees};
+ghost use Rattle.critical_paths.specs.Known.{Grows, IsShort, Knows};
+ghost use Rattle.critical_paths.specs.Views.{Sees, delay_of_step};
 
 use crate::back::own_delay;
 use crate::direction::{Corner, Direction};
@@ -35,8 +40,13 @@ pub struct Place {
 impl Place {
     /// The event of its net in a slot.
     pub(crate) fn stop(self, slot: u16) -> Stop
-        ensures net { result.net ≡ self.net }
-        ensures slot { result.slot ≡ slot }
+        ensures { result ≡ record {
+          net = self.net;
+          direction = self.direction;
+          slot = slot;
+          corner = self.corner;
+          reading = Reading.Folded;
+        } }
     {
         Stop {
             net: self.net,
@@ -76,7 +86,9 @@ struct Frame {
 type Frames = Vec<Frame>;
 
 /// Which of a pin's steps count for steps of an element's own output.
-fn direction_at(kind: Kind, pin: usize, wanted: Direction) -> Direction {
+fn direction_at(kind: Kind, pin: usize, wanted: Direction) -> Direction
+    ensures { result ≡ pin_direction kind pin wanted }
+{
     match kind {
         Kind::Buf | Kind::And | Kind::Or => wanted,
         Kind::Reg | Kind::RegRs | Kind::Latch | Kind::LatchRs if pin == 0 => Direction::Rise,
@@ -85,7 +97,9 @@ fn direction_at(kind: Kind, pin: usize, wanted: Direction) -> Direction {
 }
 
 /// The bound of a delay.
-fn bound_of(corner: Corner, delay: &Delay) -> u16 {
+fn bound_of(corner: Corner, delay: &Delay) -> u16
+    ensures { result ≡ bound corner delay.now }
+{
     delay.known();
     corner.bound(*delay)
 }
@@ -97,7 +111,18 @@ pub(crate) fn place_behind(
     place: Place,
     number: usize,
 ) -> Option<(Place, Passage)>
-    ensures { IfSome result (λ found. IsShort found.1) }
+    ensures short { IfSome result (λ found. IsShort found.1) }
+    ensures is { (pin : Pin) (net : ℕ) → slice_get element.now.pins number ≡ Some pin →
+        pin.target ≡ Target.Net net → IfSome result (λ found.
+        let own = turned element.now.out_inverted place.direction in
+        (found.0 ≡ record {
+          clock = place.clock;
+          net = net;
+          direction = turned pin.inverted (pin_direction element.now.kind number own);
+          corner = place.corner;
+        }) × (found.1 ≡ Passage.Through number (bound place.corner
+        (wire_at circuit.now.nets net)) (bound place.corner (delay_of_step element.now own))
+        Word.Tight)) }
 {
     let pin = *element.pins.as_slice().get(number)?;
     let Target::Net(net) = pin.target else {
@@ -126,7 +151,9 @@ pub(crate) fn place_behind(
 
 /// Whether a place is at the clock itself.
 pub(crate) fn is_at_clock<W: CyclicWave<Item = Value>>(view: &View<W>, place: Place) -> bool
-    ensures { result ≡ true → place.net < length view.now.circuit.now.nets }
+    ensures net { result ≡ true → place.net < length view.now.circuit.now.nets }
+    ensures clock { place.net < length view.now.circuit.now.nets →
+        result ≡ (place.net == place.clock) }
 {
     match view.circuit.net(place.net) {
         Some(_) => place.net == place.clock,

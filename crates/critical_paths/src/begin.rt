@@ -1,7 +1,7 @@
 //! Where paths begin, and how long one launch comes before another.
 
-ghost use Rattle.std.specs.Prelude.{◌≡◌, ◌-◌, ◌*◌, ◌^◌, ◌<◌, length, IfSome, None, Some, false, IsTrue};
-ghost use Rattle.critical_paths.specs.Told.{IsNear, IsShortNode, IsShortPath, ago_in, begin_in, edge_in};
+ghost use Rattle.std.specs.Prelude.{◌≡◌, ◌^◌, ◌<◌, length, IfSome, Some, IsTrue};
+ghost use Rattle.critical_paths.specs.Known.{IsNear, IsShortNode, IsShortPath, ago_in, begin_in, edge_in};
 
 use crate::path::{At, End, Node, Paths};
 
@@ -30,7 +30,8 @@ impl Node {
 impl Paths {
     /// Whether a path is one of these, and neither its tick nor its begin is far off.
     pub fn has(&self, at: At) -> bool
-        ensures { IsTrue result → (at.node < length self.now.nodes) × IsShortPath self.now.nodes at }
+        ensures { IsTrue result →
+            (at.node < length self.now.nodes) × IsShortPath self.now.nodes at }
     {
         match self.nodes.get(at.node) {
             Some(node) => is_near(MOST_TICKS, at.tick) && node.is_short(),
@@ -56,7 +57,7 @@ impl Paths {
         ensures near { IfSome result (λ edge. IsNear (2 ^ 61) edge.1) }
     {
         let node = self.node(at.node);
-        if node.end == End::Edge {
+        if matches!(node.end, End::Edge) {
             Some((node.source, self.begin(at)))
         } else {
             None

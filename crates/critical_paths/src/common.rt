@@ -3,8 +3,8 @@
 ghost use Rattle.std.specs.Prelude.{◌≡◌, ◌<◌, ◌++◌, ◌∷◌, [], length, slice_get, take, IfOk, IfSome, OnOk, Some, if◌then◌else◌};
 ghost use Rattle.std.specs.Option.{option_map};
 ghost use Rattle.flat_circuit.specs.Circuit.{driver_at};
-ghost use Rattle.critical_paths.specs.Common.{counted_twice_told, delay_parts, driver_parts, is_at_bounds, is_part_of, is_twice, link_parts, node_parts, of_both, parts as parts_of, source_parts, spread, wire_parts};
-ghost use Rattle.critical_paths.specs.Told.{end_of, path_told};
+ghost use Rattle.critical_paths.specs.Common.{counted_twice_known, delay_parts, driver_parts, is_at_bounds, is_part_of, is_twice, link_parts, node_parts, of_both, parts as parts_of, source_parts, spread, wire_parts};
+ghost use Rattle.critical_paths.specs.Known.{end_of, path_known};
 ghost use Rattle.critical_paths.specs.Walk.{event_at, link};
 
 use crate::direction::Direction;
@@ -183,7 +183,7 @@ fn add_node(
 /// The parts of a path.
 fn parts(alloc: Global, c: &Circuit, paths: &Paths, number: usize) -> Result<Parts, NoMemory>
     requires { number < length paths.now.nodes }
-    ensures { IfOk result (λ found. Some found ≡ option_map (parts_of c.now) (path_told
+    ensures { IfOk result (λ found. Some found ≡ option_map (parts_of c.now) (path_known
         paths.now.nodes number)) }
 {
     let end = paths.node(number).end;
@@ -243,8 +243,8 @@ pub fn counted_twice(
 ) -> Result<Parts, NoMemory>
     requires own { «data».node < length paths.now.nodes }
     requires clock { clock.node < length paths.now.nodes }
-    ensures { IfOk result (λ found. Some found ≡ counted_twice_told c.now (path_told paths.now.nodes
-        «data».node) (path_told paths.now.nodes clock.node)) }
+    ensures { IfOk result (λ found. Some found ≡ counted_twice_known c.now (path_known paths.now.nodes
+        «data».node) (path_known paths.now.nodes clock.node)) }
 {
     let own = parts(alloc, c, paths, data.node)?;
     let other = parts(alloc, c, paths, clock.node)?;

@@ -1,6 +1,6 @@
 //! What cuts a step of an output short where rises and falls have delays of their own.
 
-ghost use Rattle.std.specs.Prelude.{◌≡◌, ◌-◌, ◌*◌, ℤ, ◌-ℤ◌, ◌<◌, length, slice_get, IfOk, None, Some, is_some, true, if◌then◌else◌};
+ghost use Rattle.std.specs.Prelude.{◌≡◌, ◌-◌, ◌*◌, ℤ, ◌-ℤ◌, ◌<◌, length, slice_get, IfOk, None, Some, true, if◌then◌else◌};
 ghost use Rattle.std.specs.Option.{option_map};
 ghost use Rattle.scald_base.specs.Time.{period};
 ghost use Rattle.flat_circuit.specs.declared.split.Split.{Split};

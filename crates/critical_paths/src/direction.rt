@@ -1,6 +1,6 @@
 //! Steps by their direction, and the two ends of a region.
 
-ghost use Rattle.std.specs.Prelude.{◌≡◌, ◌+◌, ◌-◌, ◌*◌, ◌≤◌, false, true};
+ghost use Rattle.std.specs.Prelude.{◌≡◌, ◌+◌, ◌*◌, ◌≤◌, false, true};
 ghost use Rattle.step_values.specs.Steps.{has};
 ghost use Rattle.step_values.specs.StepSet.{in_set};
 ghost use Rattle.critical_paths.specs.Event.{direction_by, moves, other_corner, steps_of, turned};

@@ -4,7 +4,7 @@ ghost use Rattle.std.specs.Prelude.{◌≡◌, ◌<◌, IfSome};
 ghost use Rattle.scald_base.specs.Time.{period as period_of};
 ghost use Rattle.critical_paths.specs.Launch.{is_edge, offset_at, offset_if_edge};
 ghost use Rattle.critical_paths.specs.Tick.{IsWithin, most_tick, slot_of};
-ghost use Rattle.critical_paths.specs.Told.{IsNear};
+ghost use Rattle.critical_paths.specs.Known.{IsNear};
 
 use crate::direction::{Corner, Direction};
 use crate::event::{Reading, Stop};

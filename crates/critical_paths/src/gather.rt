@@ -2,7 +2,7 @@
 
 ghost use Rattle.std.specs.Prelude.{◌≡◌, ◌<◌, length, IfSome, None};
 ghost use Rattle.flat_circuit.specs.Circuit.{driver as driver_of};
-ghost use Rattle.critical_paths.specs.Told.{IsShort};
+ghost use Rattle.critical_paths.specs.Known.{IsShort};
 ghost use Rattle.critical_paths.specs.Views.{Sees};
 
 use crate::arrival::{Known, Place, is_at_clock, place_behind};

@@ -1,8 +1,8 @@
 //! Arrivals near the first period.
 
-ghost use Rattle.std.specs.Prelude.{◌^◌};
+ghost use Rattle.std.specs.Prelude.{◌≡◌, ◌^◌, ◌+ℤ◌, ◌-ℤ◌, IfSome};
 ghost use Rattle.critical_paths.specs.Tick.{IsWithin};
-ghost use Rattle.critical_paths.specs.Told.{IsNear};
+ghost use Rattle.critical_paths.specs.Known.{IsNear};
 
 use crate::arrival::Arrival;
 
@@ -22,7 +22,10 @@ pub(crate) struct Near {
 
 impl Near {
     /// The arrival of an edge at a tick, unless it is too far.
-    fn at(ideal: i64, tick: i64, node: usize) -> Option<Near> {
+    fn at(ideal: i64, tick: i64, node: usize) -> Option<Near>
+        ensures { IfSome result (λ near. (near.ideal ≡ ideal) × (near.tick ≡ tick)
+            × (near.node ≡ node)) }
+    {
         if ideal.unsigned_abs() <= FAR && tick.unsigned_abs() <= FAR {
             Some(Near { ideal, tick, node })
         } else {
@@ -31,13 +34,16 @@ impl Near {
     }
 
     /// The arrival of an edge that lies so many ticks before it.
-    pub(crate) fn begun(tick: i64, age: i64) -> Option<Near> {
+    pub(crate) fn begun(tick: i64, age: i64) -> Option<Near>
+        ensures { IfSome result (λ near. (near.ideal ≡ tick -ℤ age) × (near.tick ≡ tick)) }
+    {
         Near::at(tick.checked_sub(age)?, tick, 0)
     }
 
     /// The tick so many later.
     pub(crate) fn tick_after(self, ticks: i64) -> i64
         requires { IsNear 131072 ticks }
+        ensures { result ≡ self.tick +ℤ ticks }
     {
         self.tick + ticks
     }
@@ -45,12 +51,16 @@ impl Near {
     /// The same edge so many ticks later, unless that is too far.
     pub(crate) fn later(self, ticks: i64) -> Option<Near>
         requires { IsNear 131072 ticks }
+        ensures { IfSome result (λ near. (near.ideal ≡ self.ideal)
+            × (near.tick ≡ self.tick +ℤ ticks) × (near.node ≡ self.node)) }
     {
         Near::at(self.ideal, self.tick_after(ticks), self.node)
     }
 
     /// The same with an event of this number.
-    pub(crate) fn numbered(self, node: usize) -> Near {
+    pub(crate) fn numbered(self, node: usize) -> Near
+        ensures { (result.ideal ≡ self.ideal) × (result.tick ≡ self.tick) × (result.node ≡ node) }
+    {
         Near {
             ideal: self.ideal,
             tick: self.tick,
@@ -60,7 +70,8 @@ impl Near {
 
     /// What the layers above see of it.
     pub(crate) fn arrival(self) -> Arrival
-        ensures { IsWithin (2 ^ 46) result.ideal × IsWithin (2 ^ 46) result.tick }
+        ensures near { IsWithin (2 ^ 46) result.ideal × IsWithin (2 ^ 46) result.tick }
+        ensures is { result ≡ record { ideal = self.ideal; tick = self.tick; node = self.node } }
     {
         Arrival {
             ideal: self.ideal,

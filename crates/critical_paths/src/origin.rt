@@ -4,7 +4,7 @@ ghost use Rattle.std.specs.Prelude.{◌≡◌, ◌<◌, length, slice_get, IfOk,
 ghost use Rattle.std.specs.Option.{option_map};
 ghost use Rattle.scald_base.specs.Time.{period as period_of};
 ghost use Rattle.fixpoint_engine.specs.Waves.{waves_of};
-ghost use Rattle.critical_paths.specs.Told.{IsStop, LeadsWithin};
+ghost use Rattle.critical_paths.specs.Known.{IsStop, LeadsWithin};
 ghost use Rattle.critical_paths.specs.Views.{Sees, event_of, read_of};
 ghost use Rattle.critical_paths.specs.Walk.{origin_of, read_at, stop_of};
 

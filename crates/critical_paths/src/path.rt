@@ -5,7 +5,7 @@ ghost use Rattle.std.specs.Option.{option_map};
 ghost use Rattle.scald_base.specs.Time.{period as period_of};
 ghost use Rattle.fixpoint_engine.specs.Waves.{waves_of};
 ghost use Rattle.critical_paths.specs.Launch.{ticks_of};
-ghost use Rattle.critical_paths.specs.Told.{AreShort, Has, IsNear, IsShort, IsShortNode, Tells, are_met, node_before, ticks_along};
+ghost use Rattle.critical_paths.specs.Known.{AreShort, Has, IsNear, IsShort, IsShortNode, Tells, are_met, node_before, ticks_along};
 ghost use Rattle.critical_paths.specs.Walk.{origin_of, same_stop};
 
 use crate::arrival::{Known, Place};
@@ -20,7 +20,7 @@ use step_values::Value;
 use wave_core::CyclicWave;
 
 /// How surely a link goes on from the one before.
-#[derive(Clone, Copy, PartialEq, Eq, Hash)]
+#[derive(Clone, Copy)]
 pub enum Word {
     /// The delay is at its bound, and what makes the event ends there too.
     Tight,
@@ -35,7 +35,7 @@ pub enum Word {
 }
 
 /// By what an event comes from the one before it.
-#[derive(Clone, Copy, PartialEq, Eq, Hash)]
+#[derive(Clone, Copy)]
 pub enum Passage {
     /// Through a pin of the net's driver, by its wire and the driver's delay, in ticks.
     Through {
@@ -73,7 +73,7 @@ pub enum Origin {
 }
 
 /// Where a path ends.
-#[derive(Clone, Copy, PartialEq, Eq, Hash)]
+#[derive(Clone, Copy)]
 pub enum End {
     /// At an edge of a clock.
     Edge,

@@ -1,7 +1,7 @@
 //! The events of a path, one after the other, with the tick of each.
 
-ghost use Rattle.std.specs.Prelude.{◌≡◌, ◌<◌, length, slice_get, IfOk, None, Some};
-ghost use Rattle.critical_paths.specs.Told.{IsNear, IsShortPath, step_at, steps_from, ticks_by, way_of};
+ghost use Rattle.std.specs.Prelude.{◌≡◌, ◌<◌, length, slice_get, IfOk, Some};
+ghost use Rattle.critical_paths.specs.Known.{IsNear, IsShortPath, step_at, steps_from, ticks_by, way_of};
 
 use crate::event::Stop;
 use crate::path::{At, Node, Nodes, Passage, Paths, Step, Steps};

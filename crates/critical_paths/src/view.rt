@@ -1,6 +1,6 @@
 //! What nets and pins may do at a tick, by the settled waves of a case.
 
-ghost use Rattle.std.specs.Prelude.{◌≡◌, ◌+◌, ◌-◌, ◌*◌, ◌<◌, ◌≤◌, ◌+ℤ◌, pos, length, min, slice_get, IfNone, IfSome, IfOk, None, Some, true, if◌then◌else◌};
+ghost use Rattle.std.specs.Prelude.{◌≡◌, ◌+◌, ◌*◌, ◌<◌, ◌≤◌, ◌+ℤ◌, pos, length, min, slice_get, IfNone, IfSome, IfOk, None, Some, if◌then◌else◌};
 ghost use Rattle.std.specs.List.{All};
 ghost use Rattle.std.specs.Option.{option_map};
 ghost use Rattle.scald_base.specs.Time.{period as period_of};

@@ -1,11 +1,11 @@
 //! Walks back from an event, along what is not known yet.
 
-ghost use Rattle.std.specs.Prelude.{◌≡◌, ◌+◌, ◌-◌, ◌+ℤ◌, ◌<◌, ◌≤◌, ◌^◌, length, nat_lt, pos, if◌then◌else◌, IfOk, IfSome, OnOk, None, Some, []};
+ghost use Rattle.std.specs.Prelude.{◌≡◌, ◌+◌, ◌-◌, ◌+ℤ◌, ◌<◌, ◌≤◌, ◌^◌, length, nat_lt, pos, if◌then◌else◌, IfOk, IfSome, OnOk, Some, []};
 ghost use Rattle.std.specs.Option.{option_and_then, option_map};
 ghost use Rattle.scald_base.specs.Time.{period as period_of};
 ghost use Rattle.fixpoint_engine.specs.Waves.{waves_of};
 ghost use Rattle.critical_paths.specs.Launch.{edge_of};
-ghost use Rattle.critical_paths.specs.Told.{AreApart, AreNew, AreStops, Grows, Has, IsBegun, IsHalt, IsNear, IsNumbered, IsRound, IsShortPath, IsStop, IsWalked, Knows, Leads, Walked, edge_in, path_at, path_told, stop_after, told_edge};
+ghost use Rattle.critical_paths.specs.Known.{AreApart, AreNew, AreStops, Grows, Has, IsBegun, IsHalt, IsNear, IsNumbered, IsRound, IsShortPath, IsStop, IsWalked, Knows, Leads, Walked, corner_in, edge_in, path_at, path_known, stop_after, edge_pair};
 ghost use Rattle.critical_paths.specs.Tick.{IsWithin, most_tick, slot_of};
 ghost use Rattle.critical_paths.specs.Views.{IsPin, Sees, event_of};
 ghost use Rattle.critical_paths.specs.Walk.{end_pin_path, path_of_stop, pin_path_on, stop_of};
@@ -165,7 +165,7 @@ impl Paths {
         ensures knows { OnOk result (Knows view.now.circuit.now (waves_of view.now.waves.now)
             self.new.nodes self.new.met.entries) }
         ensures grows { OnOk result (Grows self.old.nodes self.new.nodes) }
-        ensures path { IfOk result (λ n. path_told self.new.nodes n
+        ensures path { IfOk result (λ n. path_known self.new.nodes n
             ≡ Some (path_of_stop view.now.circuit.now (waves_of view.now.waves.now) (stop_after
             chain.now.entries stop 0))) }
         ensures has { IfOk result (λ n. Has self.new.met.entries (stop_after chain.now.entries stop
@@ -195,7 +195,7 @@ impl Paths {
         ensures knows { OnOk result (Knows view.now.circuit.now (waves_of view.now.waves.now)
             self.new.nodes self.new.met.entries) }
         ensures grows { OnOk result (Grows self.old.nodes self.new.nodes) }
-        ensures path { IfOk result (λ n. path_told self.new.nodes n
+        ensures path { IfOk result (λ n. path_known self.new.nodes n
             ≡ Some (path_of_stop view.now.circuit.now (waves_of view.now.waves.now) start)) }
         ensures has { IfOk result (λ n. Has self.new.met.entries start n) }
     {
@@ -217,20 +217,21 @@ impl<'a, W: CyclicWave<Item = Value>> View<'a, W> {
         ensures knows { OnOk result (Knows self.now.circuit.now (waves_of self.now.waves.now)
             paths.new.nodes paths.new.met.entries) }
         ensures grows { OnOk result (Grows paths.old.nodes paths.new.nodes) }
-        ensures path { let c = self.now.circuit.now in IfOk result (λ at. path_told paths.new.nodes
+        ensures path { let c = self.now.circuit.now in IfOk result (λ at. path_known paths.new.nodes
             at.node
             ≡ Some (path_of_stop c (waves_of self.now.waves.now)
             (stop_of c event.corner event.reading (event_of (period_of c.header) event)))) }
         ensures tick { IfOk result (λ at. at.tick ≡ event.tick) }
+        ensures corner { IfOk result (λ at. corner_in paths.new.nodes at ≡ Some event.corner) }
         ensures has { let c = self.now.circuit.now in IfOk result (λ at. Has paths.new.met.entries
             (stop_of c event.corner event.reading (event_of (period_of c.header) event)) at.node) }
         ensures short { IfOk result (λ at. IsNear (2 ^ 60) event.tick → IsShortPath paths.new.nodes
             at) }
         ensures edge { let c = self.now.circuit.now in IfOk result (λ at. event.reading ≡
             Reading.Folded →
-            edge_in paths.new.nodes at ≡ option_map told_edge (option_and_then (edge_of c
+            edge_in paths.new.nodes at ≡ option_map edge_pair (option_and_then (edge_of c
             event.corner at.tick)
-            (path_told paths.new.nodes at.node))) }
+            (path_known paths.new.nodes at.node))) }
     {
         // no path is long, since no period is
         let _period = self.period();
@@ -258,11 +259,13 @@ impl<'a, W: CyclicWave<Item = Value>> View<'a, W> {
             at.direction at.pin.inverted at.pin.target)) }
         ensures tick { IfOk result (λ found. IfSome found (λ path. path.tick +ℤ pos path.wire ≡
             at.tick)) }
+        ensures corner { IfOk result (λ found. IfSome found (λ path.
+            corner_in paths.new.nodes path ≡ Some at.corner)) }
         ensures short { IfOk result (λ found. IfSome found (IsShortPath paths.new.nodes)) }
         ensures edge { let c = self.now.circuit.now in IfOk result (λ found. IfSome found (λ path.
-            edge_in paths.new.nodes path ≡ option_map told_edge (option_and_then (edge_of c
+            edge_in paths.new.nodes path ≡ option_map edge_pair (option_and_then (edge_of c
             at.corner path.tick)
-            (path_told paths.new.nodes path.node)))) }
+            (path_known paths.new.nodes path.node)))) }
     {
         let Some(behind) = self.behind(at) else {
             return Ok(None);
@@ -291,6 +294,8 @@ impl<'a, W: CyclicWave<Item = Value>> View<'a, W> {
             (slot_of (period_of c.header) at.tick) at.pin)) }
         ensures tick { IfOk result (λ found. IfSome found (λ path. path.tick +ℤ pos path.wire ≡
             at.tick)) }
+        ensures corner { IfOk result (λ found. IfSome found (λ path.
+            corner_in paths.new.nodes path ≡ Some at.corner)) }
         ensures short { IfOk result (λ found. IfSome found (IsShortPath paths.new.nodes)) }
     {
         // there is a slot, since each period has one

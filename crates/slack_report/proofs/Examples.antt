@@ -1,5 +1,5 @@
 -- What the words of both programs ask for, and the lines of answers.
-use Rattle.std.proofs.Common.{◌≡◌, List, [], ◌∷◌, codes, refl, Option, Some, None, Result, Ok, Err}
+use Rattle.std.proofs.Common.{◌≡◌, [], ◌∷◌, codes, refl, Some, None, Ok, Err}
 use Rattle.std.specs.Fmt.{digits}
 use Rattle.slack_report.specs.declared.request.Part.TheVariants.{Table, Paragraphs}
 use Rattle.slack_report.specs.Answer.{last_lines}

@@ -1,5 +1,5 @@
 -- Each reply speaks of the text, whatever stands between the first line of the answer and the last.
-use Rattle.std.proofs.Common.{◌≡◌, ◌∙◌, ℕ, List, ap, sym, refl, Option, None}
+use Rattle.std.proofs.Common.{◌≡◌, ◌∙◌, ℕ, List, ap, sym, refl, None}
 use Rattle.scald_base.specs.declared.outcome.Outcome.{Outcome}
 use Rattle.scald_base.specs.Outcome.{end_of}
 use Rattle.program_call.specs.Answer.{Evaluated}

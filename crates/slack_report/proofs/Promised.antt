@@ -1,7 +1,6 @@
 -- What the answer to a text says of the outcome of the call.
-use Rattle.std.proofs.Common.{◌≡◌, ◌∙◌, ◌⊎◌, inl, inr, ℕ, ◌+◌, Bool, true, false, cond, List, [], ◌∷◌, length, map, refl, sym, ap, subst, arith, IfOk, IfSome, Option, Some, None, Result, Ok, Err}
+use Rattle.std.proofs.Common.{◌≡◌, ◌∙◌, ◌⊎◌, inl, inr, ℕ, ◌+◌, Bool, true, false, cond, List, [], ◌∷◌, length, refl, sym, ap, subst, arith, IfOk, IfSome, Option, Some, None, Result, Ok, Err}
 use Rattle.std.specs.Prelude.{◌==◌, if◌then◌else◌, not}
-use Rattle.std.specs.List.{sum_by}
 use Rattle.std.proofs.lemmas.Bool.{eqb-true}
 use Rattle.std.proofs.lemmas.List.Sums.{sum_by-cons}
 use Rattle.scald_base.specs.declared.outcome.Outcome.{Outcome}
@@ -31,8 +30,7 @@ use Rattle.program_call.proofs.Outcomes.{evaluated_has, evaluated_settles, settl
 use Rattle.slack_report.specs.declared.request.Part.{Part}
 use Rattle.slack_report.specs.declared.request.Request.{Request}
 use Rattle.slack_report.specs.Answer.{AreSlacks, AreSlacksOf, case_of, cases_of, fault_total, slack_program, slacks_of}
-use Rattle.slack_report.specs.Promise.{AsksWell, EndsByLimits, IsVerdict, NeverBreaksIfMet, SettlesUnlimited}
-use Rattle.slack_report.specs.Words.{request_of}
+use Rattle.slack_report.specs.Promise.{EndsByLimits, IsVerdict, NeverBreaksIfMet, SettlesUnlimited}
 use Rattle.slack_report.proofs.Lawful.{slack_program_lawful}
 
 pub is_given : (request : Request) (text : List ℕ) (o : Outcome) (bytes : List ℕ) →

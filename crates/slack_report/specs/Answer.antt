@@ -71,8 +71,9 @@ last_lines part free broken limits = free_lines part free ++ line [] ++ count_li
 
 -- ---- the reply
 
--- A number of limits that is 0 exactly where no limit is broken, which is where no case has a fault.
--- Where no limit is told by arrivals, it is that of the broken ones that have a row of their own.
+-- A number of limits that is 0 exactly where no limit is broken, which is where no case has a
+-- fault. Where no limit is told by arrivals, it is that of the broken ones that have a row of their
+-- own.
 pub record AreBroken (c : Circuit) (cases : List Case) (count : ℕ) : Type 0 where
   pub none : (count == 0) ≡ not (some_broken c cases)
   pub faultless : (count == 0) ≡ (fault_total c cases == 0)

@@ -1,10 +1,11 @@
 //! Bits of one statement with equal sums, which are one row.
 
-use crate::sheet::{Limit, Sheet, Statement};
-use critical_paths::{At, Direction, End, Node, Passage};
+use crate::keys::{Outline, row_text, shape_text};
+use crate::sheet::{Limit, Sheet};
+use critical_paths::{At, End};
 use indexmap::IndexSet;
-use scald_base::{List, NoMemory};
-use slack_rows::{By, Parameter, Rank, Slack, Subject, Word};
+use scald_base::{Bytes, List, NoMemory};
+use slack_rows::Rank;
 use std::alloc::Global;
 
 /// Bits of one statement with equal sums: the first, and all.
@@ -22,48 +23,12 @@ struct Entry {
     place: usize,
 }
 
-/// A link without its bits, and the number of what stands before it.
-#[derive(Clone, Copy, PartialEq, Eq, Hash)]
-struct Shape {
-    name: usize,
-    direction: Direction,
-    passage: Option<Passage>,
-    statement: Option<Statement>,
-    end: End,
-    rest: usize,
-}
-
-/// The shapes of paths: those of links, each once, and of each event the number of its path's from
-/// 1, or 0.
+/// The shapes of paths: the texts of links, each once, and of each event the number of its path's
+/// from 1, or 0.
 #[derive(Drop)]
 struct Shapes {
-    distinct: IndexSet<Shape>,
+    distinct: IndexSet<Bytes>,
     known: List<usize>,
-}
-
-/// A path without its bits: its shape, and its ticks.
-#[derive(Clone, Copy, PartialEq, Eq, Hash)]
-struct Outline {
-    shape: usize,
-    tick: i64,
-    begin: i64,
-    wire: u16,
-}
-
-/// What is equal in a row.
-#[derive(Clone, Copy, PartialEq, Eq, Hash)]
-struct Key {
-    word: Word,
-    limit: u16,
-    slack: Slack,
-    edge: (i64, i64),
-    pin: u16,
-    is_either: bool,
-    is_repeated: bool,
-    statement: Option<Statement>,
-    data: Option<Outline>,
-    clock: Option<Outline>,
-    cases: usize,
 }
 
 /// Adds the limits that something can break and that are not told before.
@@ -140,19 +105,13 @@ impl Shapes {
         end: End,
         rest: usize,
     ) -> Result<usize, NoMemory> {
-        let Some(Node { stop, passage, .. }) = sheet.node(event) else {
+        let Some(node) = sheet.node(event) else {
             return Ok(rest);
         };
-        let (number, _) = self.distinct.insert_full(Shape {
-            name: sheet.names.nets.number(stop.net),
-            direction: stop.direction,
-            passage,
-            statement: sheet.statement(Subject::Net(stop.net)),
-            end,
-            rest,
-        })?;
+        let text = shape_text(sheet, node, end, rest)?;
+        let (number, _) = self.distinct.insert_full(text)?;
         let shape = number.saturating_add(1);
-        if end != End::Loop {
+        if !matches!(end, End::Loop) {
             self.remember(event, shape);
         }
         Ok(shape)
@@ -198,42 +157,26 @@ impl Shapes {
         }))
     }
 
-    /// What is equal in the row of a limit.
-    fn key(&mut self, sheet: Sheet, of: Limit) -> Result<Key, NoMemory> {
-        let Parameter {
-            subject,
-            word,
-            limit,
-        } = of.parameter;
-        let told = of.least.told;
-        Ok(Key {
-            word,
-            limit,
-            slack: told.slack,
-            edge: (told.window.first, told.window.last),
-            pin: told.pin,
-            is_either: of.after.is_some(),
-            is_repeated: told.by == By::Repeated,
-            statement: sheet.statement(subject),
-            data: self.outline(sheet, of.least.data)?,
-            clock: self.outline(sheet, of.least.clock)?,
-            cases: of.least.cases,
-        })
+    /// The text of what is equal in the row of a limit.
+    fn row_text(&mut self, sheet: Sheet, of: Limit) -> Result<Bytes, NoMemory> {
+        let data = self.outline(sheet, of.least.data)?;
+        let clock = self.outline(sheet, of.least.clock)?;
+        row_text(sheet, of, data, clock)
     }
 }
 
 /// The number of the row of the limit at a place.
 fn row_of(
     sheet: Sheet,
-    keys: &mut IndexSet<Key>,
+    keys: &mut IndexSet<Bytes>,
     shapes: &mut Shapes,
     place: usize,
 ) -> Result<usize, NoMemory> {
     let Some(limit) = sheet.limit(place) else {
         return Ok(0);
     };
-    let key = shapes.key(sheet, limit)?;
-    let (row, _) = keys.insert_full(key)?;
+    let text = shapes.row_text(sheet, limit)?;
+    let (row, _) = keys.insert_full(text)?;
     Ok(row)
 }
 

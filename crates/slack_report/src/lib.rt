@@ -15,6 +15,7 @@ mod words;
 
 // rows
 mod groups;
+mod keys;
 mod table;
 
 // paragraphs

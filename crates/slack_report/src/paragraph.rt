@@ -226,7 +226,7 @@ fn put_pulse(page: &mut Page, sheet: Sheet, drawing: &Drawing, of: Limit, begin:
             width.saturating_sub(limit),
         ],
     );
-    page.put(if of.least.told.by == By::Swallowed {
+    page.put(if matches!(of.least.told.by, By::Swallowed) {
         b": it may be swallowed\n".as_slice()
     } else {
         b"\n"

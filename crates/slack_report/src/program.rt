@@ -81,9 +81,10 @@ impl Program for SlackProgram {
 /// `worst=N` asks for at least N rows of the table, or for the paragraphs of the first N;
 /// `rounds=N` sets the limit of rounds.
 ///
-/// `Clean` comes where all limits are met, which is where `verify` finds no fault, and else `Faulty`
-/// with the number of those that are broken. Why a drawing is refused, or which net does not settle,
-/// is written as `verify` has it. All of the answer is made before the first byte of it is written.
+/// `Clean` comes where all limits are met, which is where `verify` finds no fault, and else
+/// `Faulty` with the number of those that are broken. Why a drawing is refused, or which net does
+/// not settle, is written as `verify` has it. All of the answer is made before the first byte of it
+/// is written.
 pub fn slack_main<S: Source, K: Sink>(
     alloc: Global,
     words: &Words,

@@ -1,6 +1,6 @@
 //! The words of both programs.
 
-ghost use Rattle.std.specs.Prelude.{◌≡◌, ◌<◌, ◌≤◌, ◌^◌, IfOk, IfSome};
+ghost use Rattle.std.specs.Prelude.{◌≡◌, ◌<◌, ◌≤◌, IfOk, IfSome};
 ghost use Rattle.slack_report.specs.Words.{IsWithin, after_name, after_worst, alone, part_of, request_of, worst_of};
 
 use program_call::{number_in, rounds_of};

@@ -133,7 +133,7 @@ pub struct Limit {
 }
 
 /// A statement in a scope.
-#[derive(Clone, Copy, PartialEq, Eq, Hash)]
+#[derive(Clone, Copy)]
 pub struct Statement {
     pub scope: usize,
     pub line: u32,

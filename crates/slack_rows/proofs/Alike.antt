@@ -1,5 +1,5 @@
 -- Of two sides: whether something can break each, and whether one of both is broken.
-use Rattle.std.proofs.Common.{inl, inr, ◌≡◌, ◌⊎◌, arith, ℕ, Bool, true, false, ◌&&◌, ◌||◌, cond, refl, sym, ap, ◌∙◌, List, Option, Some, None}
+use Rattle.std.proofs.Common.{inl, inr, ◌≡◌, ◌⊎◌, arith, ℕ, Bool, true, false, ◌&&◌, ◌||◌, cond, refl, sym, ap, ◌∙◌, Option, None}
 use Rattle.std.specs.Prelude.{IfSome, ℤ, pos, int_le, int_lt}
 use Rattle.std.proofs.lemmas.Bool.{or_left, or_right}
 use Rattle.std.proofs.lemmas.Int.{ints}

@@ -1,13 +1,13 @@
 -- Rows over no case, and sets of cases from the last back.
 use Rattle.std.proofs.Common.{◌≡◌, ℕ, zero, suc, ◌+◌, ◌-◌, ◌<◌, ◌≤◌, Bool, true, false, ◌||◌, cond, refl, sym, ap, subst, ◌∙◌, arith, List, [], ◌∷◌, ◌++◌, append-nil, map, length, replicate, reverse, take, Option, Some, None}
 use Rattle.std.specs.Prelude.{is_none, nat_le, slice_get, slice_index_or, unwrap_or}
-use Rattle.std.proofs.lemmas.List.{get_or-reverse, length-replicate, length-reverse, map_more, reverse-append, take_all}
+use Rattle.std.proofs.lemmas.List.{get_or-reverse, length-replicate, length-reverse, map_more, reverse-append}
 use Rattle.flat_circuit.specs.Circuit.{Circuit}
 use Rattle.slack_rows.specs.declared.parameter.Parameter.{Parameter}
 use Rattle.slack_rows.specs.declared.parameter.Word.{Word as Limit}
 use Rattle.slack_rows.specs.declared.rows.Least.{Least}
 use Rattle.slack_rows.specs.Rows.{all_limits, partner}
-use Rattle.slack_rows.specs.Known.{AreKnown, BreaksBoth, IsKnown, IsNumbered, breaks, least_at, numbers_of, places_of, places_within}
+use Rattle.slack_rows.specs.Known.{AreKnown, BreaksBoth, IsKnown, IsNumbered, breaks, least_at, places_of, places_within}
 
 -- ---- no case
 

@@ -1,5 +1,5 @@
 -- What is told of the narrowest pulse of a wave.
-use Rattle.std.proofs.Common.{◌≡◌, ℕ, ◌+◌, ◌-◌, List, [], length, Bool, true, false, not, ◌&&◌, ◌||◌, cond, refl, sym, ap, subst, ◌∙◌, arith, Option, Some, None}
+use Rattle.std.proofs.Common.{◌≡◌, ℕ, ◌+◌, ◌-◌, List, [], length, Bool, true, false, ◌&&◌, cond, refl, sym, ap, subst, ◌∙◌, arith, Option, Some, None}
 use Rattle.std.specs.Prelude.{ℤ, pos, ◌+ℤ◌, ◌-ℤ◌, ◌==◌, int_le, nat_lt, slice_get, unsigned_abs}
 use Rattle.std.specs.List.{All}
 use Rattle.std.proofs.lemmas.List.{get_or-map}
@@ -26,13 +26,12 @@ use Rattle.flat_circuit.specs.declared.split.Split.{Split}
 use Rattle.flat_circuit.specs.Split.{SplitFits, two_delays}
 use Rattle.pulse_check.specs.Pulse.{Slots}
 use Rattle.slack_rows.specs.declared.slack.By.{By}
-use Rattle.slack_rows.specs.declared.slack.By.TheVariants.{Pulse as ByPulse, Swallowed, Repeated}
+use Rattle.slack_rows.specs.declared.slack.By.TheVariants.{Swallowed}
 use Rattle.slack_rows.specs.declared.slack.Slack.TheVariants.{Ticks as NumberOfTicks}
-use Rattle.slack_rows.specs.declared.slack.Slack.{Slack as Number}
 use Rattle.slack_rows.specs.declared.slack.Told.{Told as Found}
 use Rattle.slack_rows.specs.declared.window.Window.{Window as Ticks}
 use Rattle.slack_rows.specs.Slack.{InPulse, Place, Ticks as TicksLeft, Told, told_at, told_of}
-use Rattle.slack_rows.specs.Pulse.{Pulse, changes_again, left_at, left_by, left_if, left_in, left_of, left_on, left_once, may_change_again, narrowest, told_pulse, told_wave, width_of}
+use Rattle.slack_rows.specs.Pulse.{Pulse, left_at, left_by, left_if, left_in, left_of, left_on, left_once, may_change_again, narrowest, told_wave, width_of}
 use Rattle.slack_rows.specs.Views.{IsNear, IsTold, in_pulse, place_by, place_of, slack_by, told_by_found}
 
 -- ---- how wide it is

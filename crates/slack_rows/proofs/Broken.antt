@@ -1,10 +1,6 @@
 -- The least of several is broken exactly where one of them is.
-use Rattle.std.proofs.Common.{inl, inr, ◌≡◌, ◌≢◌, ◌⊎◌, ℕ, zero, suc, ◌+◌, ◌-◌, ◌*◌, ◌<◌, ◌≤◌, Bool, true, false, not, ◌&&◌, ◌||◌, cond, refl, sym, ap, subst, ◌∙◌, arith, List, [], ◌∷◌, map, Option, Some, None}
-use Rattle.std.specs.Prelude.{ℤ, pos, negsuc, ◌-ℤ◌, int_lt, int_le, nat_le, nat_lt}
-use Rattle.std.specs.List.{All, Contains}
-use Rattle.std.proofs.lemmas.Bool.{cases_eq, cases_lt, and_parts, and_from}
-use Rattle.std.proofs.lemmas.Int.{ints}
-use Rattle.slack_rows.specs.Slack.{Slack, Free, Ticks, Way, NoNumber, Told, is_fewer, is_less, is_broken, least, least_from, told_alone}
+use Rattle.std.proofs.Common.{inl, inr, ◌≡◌, ◌⊎◌, Bool, true, false, cond, refl, sym, ◌∙◌, List, [], ◌∷◌, map}
+use Rattle.slack_rows.specs.Slack.{Slack, Told, is_fewer, is_less, is_broken, least_from}
 use Rattle.slack_rows.specs.Laws.{SomeOf}
 
 -- ---- the least

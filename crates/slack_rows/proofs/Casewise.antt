@@ -1,6 +1,6 @@
 -- The least slack of a limit, with what is told of it in one case more.
-use Rattle.std.proofs.Common.{inl, inr, ◌≡◌, ◌⊎◌, ℕ, zero, suc, ◌+◌, ◌<◌, ◌≤◌, Bool, true, false, not, ◌&&◌, ◌||◌, cond, refl, sym, ap, subst, ◌∙◌, arith, List, [], ◌∷◌, ◌++◌, append-nil, map, length, Option, Some, None}
-use Rattle.std.specs.Prelude.{filter, slice_index_or}
+use Rattle.std.proofs.Common.{◌≡◌, ℕ, suc, ◌+◌, ◌<◌, ◌≤◌, Bool, true, false, not, ◌&&◌, cond, refl, sym, ap, subst, ◌∙◌, arith, List, [], ◌∷◌, ◌++◌, append-nil, map, length, Option, Some, None}
+use Rattle.std.specs.Prelude.{filter}
 use Rattle.std.specs.List.{AllByRecursion}
 use Rattle.std.proofs.lemmas.List.{get_or_push, length-append, length-map, map-append}
 use Rattle.scald_base.specs.Time.{period}
@@ -10,7 +10,7 @@ use Rattle.slack_rows.specs.declared.rows.Least.{Least}
 use Rattle.slack_rows.specs.declared.slack.Told.{Told as Found}
 use Rattle.slack_rows.specs.Slack.{Slack, Free, Told, is_less, lesser, told_alone}
 use Rattle.slack_rows.specs.Limit.{Case, has_slack, least_told, same_slack, told_case, worst}
-use Rattle.slack_rows.specs.Known.{AreSets, IfFound, IsFirst, IsJoined, IsKept, IsKnown, IsLeast, IsLowered, IsLoweredBy, IsNumbered, IsSetWith, numbers_of, places_of}
+use Rattle.slack_rows.specs.Known.{AreSets, IsFirst, IsJoined, IsKnown, IsLeast, IsLowered, IsLoweredBy, IsNumbered, numbers_of, places_of}
 use Rattle.slack_rows.specs.Rows.{first_where, first_with}
 use Rattle.slack_rows.specs.Views.{IsTold, Tells, slack_by}
 use Rattle.slack_rows.proofs.Comparing.{less_not, none_less, none_same}

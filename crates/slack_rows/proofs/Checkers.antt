@@ -1,11 +1,11 @@
 -- A checker at the edges of a clock has a fault exactly where its setup or its hold slack is broken.
-use Rattle.std.proofs.Common.{inl, inr, ◌≡◌, ◌⊎◌, ◌↔◌, ℕ, zero, suc, ◌+◌, ◌-◌, ◌*◌, ◌%◌, ◌<◌, ◌≤◌, Bool, true, false, not, ◌&&◌, cond, refl, sym, ap, subst, ◌∙◌, arith, List, [], ◌∷◌, length, map, Option, Some, None}
-use Rattle.std.specs.Prelude.{◌==◌, ℤ, pos, int_lt, filter, is_some, slice_get, unwrap_or}
-use Rattle.std.specs.List.{All, AllByRecursion, range_with_len}
+use Rattle.std.proofs.Common.{inl, inr, ◌≡◌, ◌⊎◌, ◌↔◌, ℕ, zero, suc, ◌+◌, ◌-◌, ◌<◌, ◌≤◌, Bool, true, false, ◌&&◌, cond, refl, sym, ap, subst, ◌∙◌, arith, List, [], ◌∷◌, length, map, Option, Some, None}
+use Rattle.std.specs.Prelude.{◌==◌, pos, int_lt, filter, is_some, slice_get, unwrap_or}
+use Rattle.std.specs.List.{AllByRecursion, range_with_len}
 use Rattle.std.proofs.lemmas.Bool.{and_parts, eqb-true}
 use Rattle.std.proofs.lemmas.Int.{ints}
 use Rattle.std.proofs.lemmas.Option.{get_or_from_slice_get, slice_get_within}
-use Rattle.scald_base.specs.Time.{Header, IsHeader, period}
+use Rattle.scald_base.specs.Time.{Header, period}
 use Rattle.scald_base.proofs.Back.{period_later}
 use Rattle.step_values.specs.declared.value.Value.{Value}
 use Rattle.step_values.specs.Steps.{has}
@@ -27,24 +27,23 @@ use Rattle.gate_eval.proofs.Fitting.{fold_mod}
 use Rattle.fixpoint_engine.specs.Waves.{Waves, marked_pin, pin_waves}
 use Rattle.fixpoint_engine.proofs.Fits.{long_pin_at}
 use Rattle.point_check.specs.Window.{Folds, places}
-use Rattle.point_check.specs.Point.{checker_fault, first_fault, window_of}
+use Rattle.point_check.specs.Point.{checker_fault, first_fault}
 use Rattle.point_check.specs.Faults.{fault_by, fault_of, instance_fault}
 use Rattle.critical_paths.specs.declared.direction.Direction.TheVariants.{Rise, Fall, Change}
 use Rattle.critical_paths.specs.Event.{Events, events, is_first, is_last, moves}
-use Rattle.critical_paths.specs.Region.{IsCyclic, Region, first_from, region_from, regions}
+use Rattle.critical_paths.specs.Region.{IsCyclic, first_from, region_from, regions}
 use Rattle.critical_paths.proofs.Searches.{first_is}
 use Rattle.slack_rows.specs.declared.parameter.Word.{Word as Limit}
 use Rattle.slack_rows.specs.declared.parameter.Word.TheVariants.{Setup, Hold}
-use Rattle.slack_rows.specs.declared.parameter.Subject.TheVariants.{Instance as OfInstance}
-use Rattle.slack_rows.specs.Slack.{Free, Ticks, Launches, Told, Watch, is_broken, least, told_after, told_alone, told_before}
-use Rattle.slack_rows.specs.Window.{Window, about}
+use Rattle.slack_rows.specs.Slack.{Free, Launches, Told, is_broken, least, told_after, told_alone, told_before}
+use Rattle.slack_rows.specs.Window.{about}
 use Rattle.slack_rows.specs.Watch.{rise_watch, span_watch}
 use Rattle.slack_rows.specs.Launched.{checker_launches}
-use Rattle.slack_rows.specs.Limit.{edge_limits, has_no_window, least_still, pin_folds, rises_of, spans_of, still_after, still_before, told_check, told_edge, told_in, told_instance, told_mark, told_rise, told_still}
-use Rattle.slack_rows.specs.Laws.{AreWaves, Breaks, EdgesBreakWithFaults, IsBroken, IsPlaced, IsTouchedWatch, SomeOf}
+use Rattle.slack_rows.specs.Limit.{edge_limits, has_no_window, least_still, pin_folds, rises_of, spans_of, still_after, still_before, told_check, edge_pair, told_in, told_instance, told_mark, told_still}
+use Rattle.slack_rows.specs.Laws.{AreWaves, EdgesBreakWithFaults, IsBroken, IsPlaced, SomeOf}
 use Rattle.slack_rows.proofs.Broken.{least_broken}
 use Rattle.slack_rows.proofs.Watched.{broken_where_touched}
-use Rattle.slack_rows.proofs.Searched.{IsFaulty, faulty_found, found_faulty}
+use Rattle.slack_rows.proofs.Searched.{faulty_found, found_faulty}
 use Rattle.slack_rows.proofs.Rises.{rise_touches, touched_rises}
 use Rattle.slack_rows.proofs.Spans.{all_spans_placed, span_touches, touched_spans}
 
@@ -209,8 +208,8 @@ module _ (c : Circuit) (ws : Waves) (k : ℕ) (j : Instance) (are : AreWaves c w
 
   at_rise : (b : Bool) → has_no_window (edge_limits j.limits) ≡ b →
       (is_some (first_fault SetupHold (period c.header) k clock input j.limits) ≡ true)
-      ↔ (IsBroken (cond b (told_edge still_before c ws j) (told_before (period c.header) (checker_launches c ws j Rise (rises_of c ws j).windows) (rises_of c ws j)))
-      ⊎ IsBroken (cond b (told_edge still_after c ws j) (told_after (period c.header) (checker_launches c ws j Rise (rises_of c ws j).windows) (rises_of c ws j))))
+      ↔ (IsBroken (cond b (edge_pair still_before c ws j) (told_before (period c.header) (checker_launches c ws j Rise (rises_of c ws j).windows) (rises_of c ws j)))
+      ⊎ IsBroken (cond b (edge_pair still_after c ws j) (told_after (period c.header) (checker_launches c ws j Rise (rises_of c ws j).windows) (rises_of c ws j))))
   at_rise true none = (
     λ found. absurd (rise_without (period c.header) k long clock input clock_repeats input_repeats j.limits short (no_window (setup_of j.limits) (hold_of j.limits) none) found),
     λ broken. absurd (elim broken [

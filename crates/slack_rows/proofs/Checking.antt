@@ -1,12 +1,10 @@
 -- What is told of a checker at edges, by what its pins show.
-use Rattle.std.proofs.Common.{◌≡◌, ℕ, ◌+◌, ◌<◌, ◌≤◌, Bool, true, false, not, ◌&&◌, cond, refl, sym, ap, subst, ◌∙◌, arith, List, length, map, Option, Some, None}
+use Rattle.std.proofs.Common.{◌≡◌, ℕ, ◌≤◌, Bool, true, false, not, ◌&&◌, cond, refl, sym, ap, subst, ◌∙◌, List, length, Option, Some, None}
 use Rattle.std.specs.Prelude.{◌==◌, Result, IfOk, slice_get}
 use Rattle.std.specs.List.{All}
 use Rattle.std.proofs.lemmas.Option.{get_or_from_slice_get, slice_get_within}
 use Rattle.std.proofs.lemmas.Result.{IfOk-weaker}
 use Rattle.scald_base.specs.Time.{period}
-use Rattle.vector_names.specs.declared.bits.Target.{Target}
-use Rattle.vector_names.specs.declared.bits.Target.TheVariants.{Net as OnNet}
 use Rattle.element_kinds.specs.declared.form.Check.{Check}
 use Rattle.element_kinds.specs.declared.form.Check.TheVariants.{SetupHold as AboutRise, RiseFall as RiseToFall, MinPulse as Widths}
 use Rattle.flat_circuit.specs.declared.instance.Instance.{Instance}
@@ -22,13 +20,13 @@ use Rattle.critical_paths.specs.Event.{Events, events}
 use Rattle.critical_paths.specs.Region.{IsCyclic, some_event}
 use Rattle.critical_paths.specs.Views.{IsPin}
 use Rattle.slack_rows.specs.declared.parameter.Word.TheVariants.{Setup, Hold}
-use Rattle.slack_rows.specs.declared.sides.Held.{Held}
+use Rattle.slack_rows.specs.declared.held.Held.{Held}
 use Rattle.slack_rows.specs.declared.slack.Slacks.{Slacks}
 use Rattle.slack_rows.specs.declared.slack.Told.{Told as Answer}
 use Rattle.slack_rows.specs.Held.{AreSlots, IsHeld, TellSides, TellWatch, launches_of, two_of}
 use Rattle.slack_rows.specs.Launched.{checker_launches, two_at_ends}
-use Rattle.slack_rows.specs.Limit.{check_by_arrivals, edge_limits, has_no_window, is_by_arrivals, pin_folds, rises_of, spans_of, still_after, still_before, told_check, told_edge}
-use Rattle.slack_rows.specs.Slack.{Free, Told, Watch, after_window, before_window, told_after, told_alone, told_before, told_of}
+use Rattle.slack_rows.specs.Limit.{check_by_arrivals, edge_limits, has_no_window, is_by_arrivals, pin_folds, rises_of, spans_of, still_after, still_before, told_check, edge_pair}
+use Rattle.slack_rows.specs.Slack.{Free, Told, Watch, after_window, before_window, told_after, told_before, told_of}
 use Rattle.slack_rows.specs.Views.{Tells, checks_edges}
 use Rattle.slack_rows.proofs.Alike.{alike_none, alike_told}
 use Rattle.slack_rows.proofs.Parting.{check_after, check_alike, check_before, none_parts, quiet_free, some_parts}
@@ -91,8 +89,8 @@ module _ (c : Circuit) (ws : Waves) (j : Instance) where
   free_check AboutRise edges cyclic long none = by (has_no_window (edge_limits j.limits))
     where
       by : (b : Bool) →
-          ((cond b (told_edge still_before c ws j) (told_before p (checker_launches c ws j Rise (rises_of c ws j).windows) (rises_of c ws j))).slack ≡ Free)
-          × ((cond b (told_edge still_after c ws j) (told_after p (checker_launches c ws j Rise (rises_of c ws j).windows) (rises_of c ws j))).slack ≡ Free)
+          ((cond b (edge_pair still_before c ws j) (told_before p (checker_launches c ws j Rise (rises_of c ws j).windows) (rises_of c ws j))).slack ≡ Free)
+          × ((cond b (edge_pair still_after c ws j) (told_after p (checker_launches c ws j Rise (rises_of c ws j).windows) (rises_of c ws j))).slack ≡ Free)
       by true =
           let free = quiet_free p (events Change (pin_folds c ws j 1)) cyclic long none (events Rise (pin_folds c ws j 0)) in
           (ap (λ (told : Told). told.slack) free.0, ap (λ (told : Told). told.slack) free.1)
@@ -126,16 +124,16 @@ module _ (c : Circuit) (ws : Waves) (j : Instance) where
 
   -- a checker that asks for nothing
   pub quiet_check : (check : Check) (found : Slacks) → check ≡ AboutRise → has_no_window (edge_limits j.limits) ≡ true →
-      Tells p found.before (told_of 1 Change (told_edge still_before c ws j)) →
-      Tells p found.after (told_of 1 Change (told_edge still_after c ws j)) → ToldBoth check found
+      Tells p found.before (told_of 1 Change (edge_pair still_before c ws j)) →
+      Tells p found.after (told_of 1 Change (edge_pair still_after c ws j)) → ToldBoth check found
   quiet_check check found is nothing before after =
       subst (λ (x : Check). ToldBoth x found) (sym is)
       (exact_both AboutRise found
       (subst (λ (b : Bool).
-      Tells p found.before (told_of 1 Change (cond b (told_edge still_before c ws j) (told_before p (checker_launches c ws j Rise (rises_of c ws j).windows) (rises_of c ws j)))))
+      Tells p found.before (told_of 1 Change (cond b (edge_pair still_before c ws j) (told_before p (checker_launches c ws j Rise (rises_of c ws j).windows) (rises_of c ws j)))))
       (sym nothing) before)
       (subst (λ (b : Bool).
-      Tells p found.after (told_of 1 Change (cond b (told_edge still_after c ws j) (told_after p (checker_launches c ws j Rise (rises_of c ws j).windows) (rises_of c ws j)))))
+      Tells p found.after (told_of 1 Change (cond b (edge_pair still_after c ws j) (told_after p (checker_launches c ws j Rise (rises_of c ws j).windows) (rises_of c ws j)))))
       (sym nothing) after))
 
   module _ (held : Held) (pin_is : slice_get j.pins 1 ≡ Some held.pin) (clock_is : slice_get j.pins 0 ≡ Some held.clock)
@@ -168,8 +166,8 @@ module _ (c : Circuit) (ws : Waves) (j : Instance) where
     abbrev ToldBy : Bool → Slacks → Type 0
     ToldBy none found =
         TellSides p (cond none false (is_by_arrivals p (two_at_ends c ws j 0 1 Rise) (rises_of c ws j)))
-        (told_of 1 Change (cond none (told_edge still_before c ws j) (told_before p (checker_launches c ws j Rise (rises_of c ws j).windows) (rises_of c ws j))))
-        (told_of 1 Change (cond none (told_edge still_after c ws j) (told_after p (checker_launches c ws j Rise (rises_of c ws j).windows) (rises_of c ws j)))) found
+        (told_of 1 Change (cond none (edge_pair still_before c ws j) (told_before p (checker_launches c ws j Rise (rises_of c ws j).windows) (rises_of c ws j))))
+        (told_of 1 Change (cond none (edge_pair still_after c ws j) (told_after p (checker_launches c ws j Rise (rises_of c ws j).windows) (rises_of c ws j)))) found
 
     pub rise_check : {E : Type 0} (check : Check) (r : Result Slacks E) → check ≡ AboutRise → has_no_window (edge_limits j.limits) ≡ false →
         IfOk r (HeldWatch (rises_of c ws j)) → IfOk r (ToldBoth check)

@@ -1,6 +1,6 @@
 -- Slacks stand in one order, and the least of several is least.
-use Rattle.std.proofs.Common.{◌≡◌, ℕ, Bool, true, false, not, ◌&&◌, cond, refl, sym, ap, ◌∙◌, arith, List, [], ◌∷◌, map}
-use Rattle.std.specs.Prelude.{ℤ, pos, int_lt, int_le, filter}
+use Rattle.std.proofs.Common.{◌≡◌, Bool, true, false, not, ◌&&◌, cond, refl, arith, List, [], ◌∷◌, map}
+use Rattle.std.specs.Prelude.{ℤ, int_lt, int_le, filter}
 use Rattle.std.specs.List.{AllByRecursion}
 use Rattle.std.proofs.lemmas.Int.{ints}
 use Rattle.slack_rows.specs.Slack.{Slack, Free, Ticks, Way, NoNumber, Told, is_broken, is_fewer, is_less, least_from}

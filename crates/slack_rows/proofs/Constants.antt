@@ -1,5 +1,5 @@
 -- A pin on a constant never changes.
-use Rattle.std.proofs.Common.{◌≡◌, ◌≢◌, ℕ, ◌+◌, ◌-◌, ◌<◌, ◌≤◌, Bool, true, false, not, ◌||◌, cond, get_or, refl, sym, ap, ◌∙◌, arith, List, length, map}
+use Rattle.std.proofs.Common.{◌≡◌, ◌≢◌, ℕ, ◌-◌, ◌<◌, ◌≤◌, Bool, true, false, not, ◌||◌, cond, get_or, refl, sym, ap, ◌∙◌, arith, length, map}
 use Rattle.std.proofs.lemmas.List.{get_or-map, length-map}
 use Rattle.scald_base.specs.Clock.{back}
 use Rattle.scald_base.specs.Time.{Bounds, Header, period}
@@ -10,14 +10,13 @@ use Rattle.step_values.specs.Steps.{flip, has}
 use Rattle.step_values.specs.Cell.{values}
 use Rattle.step_values.specs.Lawful.{values_lawful}
 use Rattle.wave_core.specs.Slots.{earlier}
-use Rattle.wave_core.proofs.Slots.{earlier_slots, length_slots}
+use Rattle.wave_core.proofs.Slots.{earlier_slots}
 use Rattle.skew_algebra.specs.Wave.{Wave, flipped, fold, moved}
-use Rattle.skew_algebra.proofs.Moves.{length_later}
 use Rattle.pin_waves.specs.Interface.{constant_wave}
 use Rattle.pin_waves.specs.Pin.{pin_wave as wave_behind}
 use Rattle.critical_paths.specs.declared.direction.Direction.TheVariants.{Change}
 use Rattle.critical_paths.specs.Event.{moves}
-use Rattle.critical_paths.proofs.Moving.{SomeMoves, join_to_moves, moved_within, moves_join_to}
+use Rattle.critical_paths.proofs.Moving.{join_to_moves, moved_within, moves_join_to}
 use Rattle.pin_waves.proofs.Pins.{length_moved}
 
 -- the wave makes no change

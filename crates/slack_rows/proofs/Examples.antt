@@ -1,6 +1,6 @@
 -- Slacks over a period of sixteen ticks, worked out on paper.
 use Prim.Native.String.{String}
-use Rattle.std.specs.Prelude.{◌≡◌, ℕ, ◌%◌, ◌==◌, Bool, true, false, List, [], ◌∷◌, length, map, codes, slice_index_or, ℤ, pos, negsuc, Option, Some, None}
+use Rattle.std.specs.Prelude.{◌≡◌, ℕ, ◌%◌, ◌==◌, true, false, [], ◌∷◌, length, map, codes, slice_index_or, pos, negsuc, Some, None}
 use Rattle.std.proofs.Common.{refl}
 use Rattle.critical_paths.specs.Event.{Events}
 use Rattle.critical_paths.specs.Region.{all_events, regions}

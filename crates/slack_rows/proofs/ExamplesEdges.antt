@@ -1,6 +1,6 @@
 -- Spans of a clock, checkers without a window, ways to several edges and pulses that may come again,
 -- worked out on paper.
-use Rattle.std.specs.Prelude.{◌≡◌, ℕ, ◌+◌, ◌-◌, Bool, true, false, List, [], ◌∷◌, ℤ, pos, negsuc, Option, Some, None}
+use Rattle.std.specs.Prelude.{◌≡◌, ℕ, ◌+◌, ◌-◌, true, false, [], ◌∷◌, pos, negsuc, Some}
 use Rattle.std.proofs.Common.{refl}
 use Rattle.scald_base.specs.Clock.{back}
 use Rattle.scald_base.specs.declared.assertion.AssertSpec.TheVariants.{Stable}
@@ -15,7 +15,6 @@ use Rattle.fixpoint_engine.specs.Waves.{Waves, waves_of}
 use Rattle.critical_paths.specs.Cause.{made1, made2, made3, made4}
 use Rattle.critical_paths.specs.Walk.{path_of_stop}
 use Rattle.critical_paths.specs.Arrival.{Arrival, arrivals}
-use Rattle.critical_paths.specs.Region.{Region}
 use Rattle.critical_paths.proofs.Circuits.{checker, circuit, clock, input, pin, wave}
 use Rattle.slack_rows.specs.Slack.{Ticks, no_launches, told_after, told_before}
 use Rattle.slack_rows.specs.declared.parameter.Word.TheVariants.{Setup, Hold}

@@ -1,13 +1,13 @@
 -- Limits that are told once, sides by launch, and two launches, worked out on paper.
-use Rattle.std.specs.Prelude.{◌≡◌, ℕ, ◌+◌, Bool, true, false, List, [], ◌∷◌, ℤ, pos, negsuc, Option, Some, None}
+use Rattle.std.specs.Prelude.{◌≡◌, ℕ, true, false, List, [], ◌∷◌, pos, negsuc, Some, None}
 use Rattle.std.proofs.Common.{refl}
 use Rattle.critical_paths.specs.declared.direction.Direction.TheVariants.{Rise, Change}
-use Rattle.critical_paths.specs.Region.{Region, regions}
+use Rattle.critical_paths.specs.Region.{Region}
 use Rattle.slack_rows.specs.Launched.{side_by}
 use Rattle.slack_rows.specs.Limit.{is_by_arrivals}
 use Rattle.slack_rows.specs.Rows.{are_one_region, told_once}
-use Rattle.slack_rows.specs.Slack.{Launches, Place, Nowhere, At, Arrived, Slack, Free, Ticks, Way, NoNumber, Told, Watch, after_window, before_window, told_after, told_before}
-use Rattle.slack_rows.specs.Window.{Window, Side, Late, Early, Either, about}
+use Rattle.slack_rows.specs.Slack.{Launches, Nowhere, At, Arrived, Slack, Free, Ticks, Way, NoNumber, Told, Watch, told_after, told_before}
+use Rattle.slack_rows.specs.Window.{Window, Late, Early, Either, about}
 use Rattle.slack_rows.proofs.Examples.{marked}
 
 -- ---- one region before an edge and after one

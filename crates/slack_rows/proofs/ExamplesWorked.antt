@@ -1,5 +1,5 @@
 -- Slacks of small circuits over a period of sixteen slots, worked out on paper.
-use Rattle.std.specs.Prelude.{◌≡◌, ℕ, Bool, true, false, List, [], ◌∷◌, ℤ, pos, negsuc, Option, Some, None}
+use Rattle.std.specs.Prelude.{◌≡◌, ℕ, [], ◌∷◌, pos, negsuc, Some}
 use Rattle.std.proofs.Common.{refl}
 use Rattle.scald_base.specs.Clock.{back}
 use Rattle.scald_base.specs.declared.assertion.AssertSpec.TheVariants.{Stable}
@@ -15,8 +15,7 @@ use Rattle.critical_paths.specs.Cause.{made1, made2, made3, made4}
 use Rattle.critical_paths.specs.Walk.{path_of_stop}
 use Rattle.critical_paths.specs.Arrival.{arrivals}
 use Rattle.critical_paths.proofs.Circuits.{bounds, checker, circuit, clock, driven, element, input, late_wave, marked_pin, of_two_delays, pin, pin_of_complement, wave}
-use Rattle.slack_rows.specs.Slack.{Slack, Free, Ticks, Way, NoNumber}
-use Rattle.slack_rows.specs.declared.parameter.Word.{Word as Limit}
+use Rattle.slack_rows.specs.Slack.{Free, Ticks, Way, NoNumber}
 use Rattle.slack_rows.specs.declared.parameter.Word.TheVariants.{Setup, Hold, High, Low, Gate, Before as GateBefore, After as GateAfter, Assert, From as StableFrom, To as StableTo}
 use Rattle.slack_rows.specs.declared.parameter.Subject.TheVariants.{Instance as OfInstance, Net as OfNet}
 use Rattle.slack_rows.specs.Limit.{told_in}

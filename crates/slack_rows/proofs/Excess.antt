@@ -1,8 +1,8 @@
 -- A net makes a step that its assertion does not permit exactly where one of its slacks is broken.
-use Rattle.std.proofs.Common.{inl, inr, ◌≡◌, ◌⊎◌, ◌↔◌, ℕ, zero, suc, ◌+◌, ◌-◌, ◌<◌, ◌≤◌, Bool, true, false, not, ◌&&◌, ◌||◌, cond, refl, sym, ap, subst, ◌∙◌, arith, List, [], ◌∷◌, ◌++◌, map, Option, Some, None}
+use Rattle.std.proofs.Common.{inl, inr, ◌≡◌, ◌⊎◌, ◌↔◌, ℕ, zero, suc, ◌+◌, ◌<◌, ◌≤◌, Bool, true, false, not, ◌&&◌, ◌||◌, cond, refl, sym, ap, subst, ◌∙◌, arith, List, [], ◌∷◌, ◌++◌, map, Option, Some, None}
 use Rattle.std.specs.Prelude.{is_none, is_some}
 use Rattle.std.specs.List.{list_any, range_with_len}
-use Rattle.std.proofs.lemmas.Bool.{and_from, and_parts, or_left, or_parts, or_right}
+use Rattle.std.proofs.lemmas.Bool.{and_from, or_left, or_parts, or_right}
 use Rattle.scald_base.specs.Clock.{back}
 use Rattle.step_values.specs.declared.value.Value.{Value}
 use Rattle.step_values.specs.Steps.{has}
@@ -14,7 +14,7 @@ use Rattle.critical_paths.specs.declared.direction.Direction.{Direction}
 use Rattle.critical_paths.specs.declared.direction.Direction.TheVariants.{Rise, Fall, Change}
 use Rattle.critical_paths.specs.Event.{Events, events, moves}
 use Rattle.critical_paths.specs.Region.{IsCyclic}
-use Rattle.critical_paths.proofs.Runs.{not_false, not_true}
+use Rattle.critical_paths.proofs.Runs.{not_true}
 use Rattle.slack_rows.specs.Slack.{Told, Watch, least, no_launches, told_after, told_before, told_of}
 use Rattle.slack_rows.specs.Limit.{in_windows, steps_outside, told_never, told_outside}
 use Rattle.slack_rows.specs.Laws.{IsBroken, SomeOf}

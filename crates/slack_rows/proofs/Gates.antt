@@ -1,7 +1,6 @@
 -- A marked gate of a circuit has a hazard exactly where one of its slacks is broken.
-use Rattle.std.proofs.Common.{inl, inr, ◌≡◌, ◌⊎◌, ◌↔◌, ℕ, zero, suc, ◌+◌, ◌<◌, ◌≤◌, Bool, true, false, not, ◌&&◌, cond, refl, sym, ap, subst, ◌∙◌, arith, List, [], ◌∷◌, length, map, Option, Some, None}
-use Rattle.std.specs.Prelude.{◌==◌, filter, is_some, slice_get}
-use Rattle.std.specs.List.{range_with_len}
+use Rattle.std.proofs.Common.{inl, inr, ◌≡◌, ◌⊎◌, ◌↔◌, ℕ, zero, suc, ◌+◌, ◌<◌, ◌≤◌, Bool, true, false, not, cond, refl, sym, ap, ◌∙◌, arith, List, [], ◌∷◌, length, Option, Some, None}
+use Rattle.std.specs.Prelude.{◌==◌, is_some, slice_get}
 use Rattle.std.specs.Option.{option_map}
 use Rattle.std.proofs.lemmas.Bool.{and_from, and_parts}
 use Rattle.std.proofs.lemmas.List.{get_or-map}
@@ -39,7 +38,7 @@ use Rattle.slack_rows.specs.Watch.{opens}
 use Rattle.slack_rows.specs.Launched.{gate_launches}
 use Rattle.slack_rows.specs.Limit.{beside, is_beside, is_on, pin_folds, told_check, told_in, told_instance, told_mark, told_pin, watch_beside}
 use Rattle.slack_rows.specs.Laws.{AreWaves, IsBroken, MarksBreakWithFaults, SomeOf}
-use Rattle.slack_rows.proofs.Somewhere.{SomePassing, passing_some, some_passing}
+use Rattle.slack_rows.proofs.Somewhere.{passing_some, some_passing}
 use Rattle.slack_rows.proofs.Touching.{IsMet, met_touches, touched_met}
 use Rattle.slack_rows.proofs.Parts.{PartsBreak, least_iff, parts_break, some_either, some_first, some_second}
 use Rattle.slack_rows.proofs.Constants.{behind_still, constant_still, still_events}

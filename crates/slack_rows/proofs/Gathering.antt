@@ -1,7 +1,7 @@
 -- What the regions about a window come to, one after another and period by period.
-use Rattle.std.proofs.Common.{◌≡◌, ℕ, zero, suc, ◌+◌, ◌-◌, ◌*◌, ◌<◌, ◌≤◌, Bool, true, false, not, ◌&&◌, cond, refl, sym, ap, subst, ◌∙◌, arith, zero-add, List, [], ◌∷◌, ◌++◌, length, map, take, get_or, ◌||◌, Option, Some, None}
-use Rattle.std.specs.Prelude.{IfSome, ℤ, pos, negsuc, ◌+ℤ◌, ◌-ℤ◌, ◌≤ℤ◌, filter, unsigned_abs}
-use Rattle.std.specs.List.{All, AllByRecursion, list_any, range_with_len}
+use Rattle.std.proofs.Common.{◌≡◌, ℕ, zero, suc, ◌+◌, ◌-◌, ◌*◌, ◌<◌, ◌≤◌, Bool, true, false, ◌&&◌, cond, refl, sym, ap, subst, ◌∙◌, arith, List, [], ◌∷◌, ◌++◌, length, map, take, get_or, ◌||◌, Option, Some, None}
+use Rattle.std.specs.Prelude.{IfSome, ℤ, pos, ◌+ℤ◌, ◌-ℤ◌, filter, unsigned_abs}
+use Rattle.std.specs.List.{All, AllByRecursion, list_any}
 use Rattle.std.proofs.lemmas.List.Elements.{All-get_or}
 use Rattle.std.specs.Option.{option_map, option_or}
 use Rattle.std.proofs.lemmas.Int.{ints}
@@ -17,11 +17,11 @@ use Rattle.scald_base.specs.Time.{period}
 use Rattle.critical_paths.specs.declared.direction.Direction.TheVariants.{Change}
 use Rattle.critical_paths.specs.Arrival.{arrivals_of}
 use Rattle.critical_paths.specs.Event.{Events}
-use Rattle.critical_paths.specs.Region.{IsCyclic, Region, all_events, region_from, region_to, regions, regions_from}
+use Rattle.critical_paths.specs.Region.{IsCyclic, Region, region_from, region_to, regions, regions_from}
 use Rattle.critical_paths.specs.Views.{later_by, ticks_of_region}
 use Rattle.slack_rows.specs.declared.around.Around.{Around}
 use Rattle.slack_rows.specs.declared.around.Side.{Side as Counted}
-use Rattle.slack_rows.specs.declared.sides.Held.{Held}
+use Rattle.slack_rows.specs.declared.held.Held.{Held}
 use Rattle.slack_rows.specs.declared.slack.Slacks.{Slacks}
 use Rattle.slack_rows.specs.declared.slack.Told.{Told as Found}
 use Rattle.slack_rows.specs.declared.window.Window.{Window as Ticks}
@@ -30,8 +30,8 @@ use Rattle.slack_rows.specs.Slack.{At, Free, Launches, Told, is_broken, is_free,
 use Rattle.slack_rows.specs.Laws.{IsPlaced}
 use Rattle.slack_rows.specs.Launched.{two_by}
 use Rattle.critical_paths.specs.Tick.{IsWithin, most_tick}
-use Rattle.slack_rows.specs.Views.{IsByRegion, Tells, ahead_of, counts_first, counts_last, end_at, is_two, meets_window, lesser_found, region_in, slack_told, spare_at, told_by_region, window_about, window_in}
-use Rattle.slack_rows.specs.Held.{AreAlike, AreAround, AreChanges, IsBrokenByTwo, IsClose, IsCloseWindow, IsHeld, IsInPeriod, Lies, MayBeClose, MayBeHeld, TellWindow, TellWindows, first_item, held_edge, held_two, in_period, in_periods, last_item, launches_of, side_held, slacks_of_two, two_of, windows_about}
+use Rattle.slack_rows.specs.Views.{IsByRegion, Tells, ahead_of, counts_first, counts_last, end_at, is_two, meets_window, lesser_found, region_in, spare_at, told_by_region, window_about, window_in}
+use Rattle.slack_rows.specs.Held.{AreAlike, AreAround, AreChanges, IsBrokenByTwo, IsClose, IsCloseWindow, IsHeld, IsInPeriod, Lies, MayBeClose, MayBeHeld, TellWindow, TellWindows, first_item, held_edge, in_period, in_periods, last_item, launches_of, side_held, slacks_of_two, two_of, windows_about}
 use Rattle.slack_rows.proofs.Kept.{filter_more, first_more, last_more}
 use Rattle.slack_rows.proofs.Lying.{ahead_is}
 use Rattle.slack_rows.proofs.Near.{first_found, first_made as near_first, last_found, last_made as near_last}

@@ -1,7 +1,6 @@
 -- How long before an edge a change is launched, by what the program's paths tell.
-use Rattle.std.proofs.Common.{◌≡◌, ℕ, zero, suc, ◌+◌, ◌*◌, ◌%◌, ◌<◌, Bool, true, false, cond, refl, sym, ap, subst, ◌∙◌, arith, List, [], ◌∷◌, ◌++◌, length, Option, Some, None}
+use Rattle.std.proofs.Common.{◌≡◌, ℕ, zero, suc, ◌+◌, ◌*◌, ◌<◌, Bool, cond, refl, sym, ap, subst, ◌∙◌, arith, List, [], ◌∷◌, ◌++◌, length, Option, Some, None}
 use Rattle.std.specs.Prelude.{ℤ, pos, ◌+ℤ◌, ◌-ℤ◌, ◌≤ℤ◌, ◌==◌, slice_get, unsigned_abs}
-use Rattle.std.specs.Int.{int_rem_euclid}
 use Rattle.std.specs.Option.{option_and_then, option_map}
 use Rattle.std.proofs.lemmas.Int.{ints, int_rem_euclid_is}
 use Rattle.std.proofs.lemmas.Option.{slice_get_within}
@@ -17,16 +16,16 @@ use Rattle.critical_paths.specs.declared.path.At.{At}
 use Rattle.critical_paths.specs.declared.path.Node.{Node}
 use Rattle.critical_paths.specs.Tick.{slot_of}
 use Rattle.critical_paths.specs.Path.{End, Source, Loop, Nothing, Path}
-use Rattle.critical_paths.specs.Walk.{PinPath, pin_path_of, pin_path_on}
-use Rattle.critical_paths.specs.Launch.{Edge, ago, ago_of, edge_by, edge_of, edge_of_pin, offset_of, source_tick, taken}
-use Rattle.critical_paths.specs.Told.{Grows, IsShortPath, Knows, IsShortAt, ago_between, ago_in, edge_in, edge_told, path_at, path_told, pin_path_by, told_by, told_edge}
+use Rattle.critical_paths.specs.Walk.{PinPath, pin_path_on}
+use Rattle.critical_paths.specs.Launch.{Edge, ago, ago_of, edge_by, edge_of, edge_of_pin, offset_of, source_tick}
+use Rattle.critical_paths.specs.Known.{Grows, IsShortPath, Knows, IsShortAt, ago_in, edge_in, edge_known, path_at, path_known, pin_path_by, known_by, edge_pair}
 use Rattle.slack_rows.specs.Views.{ahead_of}
 use Rattle.critical_paths.specs.declared.direction.Corner.TheVariants.{Late as LateCorner, Early as EarlyCorner}
 use Rattle.critical_paths.specs.declared.event.Stop.{Stop}
 use Rattle.critical_paths.specs.Tick.{IsWithin, most_tick}
 use Rattle.critical_paths.specs.Views.{IsPin}
 use Rattle.std.specs.Prelude.{IfSome}
-use Rattle.slack_rows.specs.declared.sides.Held.{Held}
+use Rattle.slack_rows.specs.declared.held.Held.{Held}
 use Rattle.slack_rows.specs.declared.window.Window.{Window as Ticks}
 use Rattle.slack_rows.specs.Held.{GoesOn, IsCloseWindow, IsHeld, IsNearPath, edge_at_pin, step_held, told_back}
 use Rattle.slack_rows.proofs.Lying.{ahead_is}
@@ -43,17 +42,17 @@ pair_of : (net : ℕ) (x y : ℤ) → x ≡ y → ◌≡◌ {A = Option (ℕ × 
 pair_of net x y same = ap (λ (z : ℤ). Some (net, z)) same
 
 edge_back : (c : Circuit) (corner : Corner) (ticks : ℕ) (tick later : ℤ) (path : Path) → later ≡ pos ticks +ℤ tick →
-    option_map told_edge (edge_of c corner tick path) ≡ option_map (told_back ticks) (edge_of c corner later path)
+    option_map edge_pair (edge_of c corner tick path) ≡ option_map (told_back ticks) (edge_of c corner later path)
 edge_back c corner ticks tick later path at = by path.end
   where
     offset : (o : Option ℤ) →
-        option_map told_edge (option_map (λ after. record { net = path.last.net; tick = source_tick tick path -ℤ after }) o)
+        option_map edge_pair (option_map (λ after. record { net = path.last.net; tick = source_tick tick path -ℤ after }) o)
         ≡ option_map (told_back ticks) (option_map (λ after. record { net = path.last.net; tick = source_tick later path -ℤ after }) o)
     offset None = refl
     offset (Some after) =
         pair_of path.last.net (source_tick tick path -ℤ after) (source_tick later path -ℤ after -ℤ pos ticks) (omega (arith, ints, at))
 
-    by : (e : End) → option_map told_edge (edge_by c corner tick path e) ≡ option_map (told_back ticks) (edge_by c corner later path e)
+    by : (e : End) → option_map edge_pair (edge_by c corner tick path e) ≡ option_map (told_back ticks) (edge_by c corner later path e)
     by Source = offset (offset_of c corner path.last)
     by Loop = refl
     by Nothing = refl
@@ -61,16 +60,16 @@ edge_back c corner ticks tick later path at = by path.end
 -- ---- paths of pins
 
 -- what is found of the path that a pin shows
-record IsTold (nodes : List Node) (at : At) (x : Option PinPath) : Type 0 where
+record IsPathAt (nodes : List Node) (at : At) (x : Option PinPath) : Type 0 where
   path : Path
-  told : path_told nodes at.node ≡ Some path
+  told : path_known nodes at.node ≡ Some path
   is : x ≡ Some (record { wire = at.wire; path = path })
 
-is_told : (nodes : List Node) (at : At) (x : Option PinPath) → option_map (path_at nodes) (Some at) ≡ option_map Some x → IsTold nodes at x
-is_told nodes at None same = absurd (cc)
-is_told nodes at (Some found) same = by (path_told nodes at.node) refl
+is_path_at : (nodes : List Node) (at : At) (x : Option PinPath) → option_map (path_at nodes) (Some at) ≡ option_map Some x → IsPathAt nodes at x
+is_path_at nodes at None same = absurd (cc)
+is_path_at nodes at (Some found) same = by (path_known nodes at.node) refl
   where
-    by : (o : Option Path) → path_told nodes at.node ≡ o → IsTold nodes at (Some found)
+    by : (o : Option Path) → path_known nodes at.node ≡ o → IsPathAt nodes at (Some found)
     by None told =
         let none : ◌≡◌ {A = Option (Option PinPath)} (Some None) (Some (Some found)) = ap (λ (o : Option Path). Some (pin_path_by at.wire o)) (sym told) ∙ same in
         absurd (cc)
@@ -83,12 +82,12 @@ is_told nodes at (Some found) same = by (path_told nodes at.node) refl
 pub within : (nodes : List Node) (at : At) (x : Option PinPath) → option_map (path_at nodes) (Some at) ≡ option_map Some x → at.node < length nodes
 within nodes at x same = by (slice_get nodes at.node) refl
   where
-    found : IsTold nodes at x
-    found = is_told nodes at x same
+    found : IsPathAt nodes at x
+    found = is_path_at nodes at x same
 
     by : (o : Option Node) → slice_get nodes at.node ≡ o → at.node < length nodes
     by None is =
-        let none : told_by nodes None ≡ Some found.path = ap (told_by nodes) (sym is) ∙ found.told in
+        let none : known_by nodes None ≡ Some found.path = ap (known_by nodes) (sym is) ∙ found.told in
         absurd (cc)
     by (Some n) is = slice_get_within nodes at.node n is
 
@@ -111,13 +110,13 @@ module _ (c : Circuit) (ws : Waves) (some : 0 < period c.header) (corner : Corne
 
   pub edge_told_is : (nodes : List Node) (at : At) → option_map (path_at nodes) (Some at) ≡ option_map Some shown →
       at.tick +ℤ pos at.wire ≡ tick →
-      edge_in nodes at ≡ option_map told_edge (option_and_then (edge_of c corner at.tick) (path_told nodes at.node)) →
+      edge_in nodes at ≡ option_map edge_pair (option_and_then (edge_of c corner at.tick) (path_known nodes at.node)) →
       edge_in nodes at ≡ option_map (told_back (3 * period c.header)) (edge_at_pin c ws corner pin d (ahead_of (period c.header) tick))
   edge_told_is nodes at same sum edge =
-      let told = is_told nodes at shown same in
+      let told = is_path_at nodes at shown same in
       let ahead = ahead_is (period c.header) tick from in
       edge
-      ∙ ap (λ (o : Option Path). option_map told_edge (option_and_then (edge_of c corner at.tick) o)) told.told
+      ∙ ap (λ (o : Option Path). option_map edge_pair (option_and_then (edge_of c corner at.tick) o)) told.told
       ∙ edge_back c corner (3 * period c.header) at.tick (pos (ahead_of (period c.header) tick) -ℤ pos at.wire) told.path (omega (arith, ints, ahead, sum))
       ∙ ap (option_map (told_back (3 * period c.header))) (sym (at_slot ∙ ap (edge_of_pin c corner (ahead_of (period c.header) tick)) told.is))
 
@@ -163,7 +162,7 @@ node_stays old new i grows below = by (slice_get old i) refl
     by (Some n) is = ap (λ (xs : List Node). slice_get xs i) grows.is ∙ get_more old grows.more i n is
 
 pub edge_stays : (old new : List Node) (at : At) → Grows old new → at.node < length old → edge_in new at ≡ edge_in old at
-edge_stays old new at grows below = ap (edge_told at.tick) (node_stays old new at.node grows below)
+edge_stays old new at grows below = ap (edge_known at.tick) (node_stays old new at.node grows below)
 
 pub short_stays : (old new : List Node) (at : At) → Grows old new → at.node < length old → IsShortPath old at → IsShortPath new at
 short_stays old new at grows below short = subst (IsShortAt at.tick) (sym (node_stays old new at.node grows below)) short
@@ -218,7 +217,7 @@ pub found_edge : (c : Circuit) (ws : Waves) → 0 < period c.header → (corner 
     pos 0 ≤ℤ (pos (3 * period c.header) +ℤ tick) → (nodes : List Node) (found : Option At) →
     option_map (path_at nodes) found ≡ option_map Some (pin_path_on c ws corner (slot_of (period c.header) tick) d pin.inverted pin.target) →
     IfSome found (λ at. at.tick +ℤ pos at.wire ≡ tick) →
-    IfSome found (λ at. edge_in nodes at ≡ option_map told_edge (option_and_then (edge_of c corner at.tick) (path_told nodes at.node))) →
+    IfSome found (λ at. edge_in nodes at ≡ option_map edge_pair (option_and_then (edge_of c corner at.tick) (path_known nodes at.node))) →
     option_and_then (edge_in nodes) found ≡ option_map (told_back (3 * period c.header)) (edge_at_pin c ws corner pin d (ahead_of (period c.header) tick))
 found_edge c ws some corner pin d tick from nodes None same sum edge =
     sym (ap (option_map (told_back (3 * period c.header))) (no_edge c ws some corner pin d tick from (sym same)))

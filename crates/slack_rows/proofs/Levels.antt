@@ -1,9 +1,8 @@
 -- Where the limit of a mark or an assertion stands beside the others of its subject.
-use Rattle.std.proofs.Common.{inl, inr, ◌≡◌, ◌⊎◌, ℕ, zero, suc, ◌+◌, ◌-◌, ◌<◌, ◌≤◌, Bool, true, false, not, ◌&&◌, cond, refl, sym, ap, subst, ◌∙◌, arith, List, [], ◌∷◌, ◌++◌, map, length, take, Option, Some, None}
+use Rattle.std.proofs.Common.{inl, inr, ◌≡◌, ℕ, zero, suc, ◌+◌, ◌-◌, ◌<◌, ◌≤◌, Bool, true, false, ◌&&◌, cond, refl, sym, ap, subst, ◌∙◌, arith, List, [], ◌∷◌, ◌++◌, map, length, take, Option, Some, None}
 use Rattle.std.specs.Prelude.{slice_get, slice_index_or, nat_le, is_none}
-use Rattle.std.specs.List.{count_by, flat_map, list_all}
+use Rattle.std.specs.List.{count_by, flat_map}
 use Rattle.std.proofs.lemmas.Bool.{cases_lt}
-use Rattle.std.proofs.lemmas.List.{length-append}
 use Rattle.std.proofs.lemmas.List.Sums.{count_by_more_no, count_by_more_yes}
 use Rattle.flat_circuit.specs.Circuit.{Circuit}
 use Rattle.slack_rows.specs.declared.parameter.Parameter.{Parameter}
@@ -13,7 +12,7 @@ use Rattle.slack_rows.specs.declared.parameter.Word.TheVariants.{Setup, Hold, Hi
 use Rattle.slack_rows.specs.declared.rows.Least.{Least}
 use Rattle.slack_rows.specs.Slack.{is_free}
 use Rattle.slack_rows.specs.Limit.{Case, least_told}
-use Rattle.slack_rows.specs.Rows.{all_limits, is_free_limit, is_level_free, level_beside, limit_with, limits_at, limits_of, row, subjects}
+use Rattle.slack_rows.specs.Rows.{is_free_limit, limit_with, limits_at, limits_of, row, subjects}
 use Rattle.slack_rows.specs.Known.{AreKnown, free_by, least_at}
 use Rattle.slack_rows.proofs.Stepwise.{some_same}
 use Rattle.slack_rows.proofs.Totals.{at_0}

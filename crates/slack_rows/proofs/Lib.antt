@@ -2,6 +2,7 @@ pub mod Examples
 mod ExamplesWorked
 mod ExamplesEdges
 mod ExamplesOnce
+mod ExamplesLimits
 pub mod Ordered
 pub mod Listed
 pub mod Broken

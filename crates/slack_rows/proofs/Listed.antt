@@ -1,5 +1,5 @@
 -- The limits of a circuit, subject by subject.
-use Rattle.std.proofs.Common.{◌≡◌, ℕ, zero, suc, ◌+◌, ◌<◌, ◌≤◌, Bool, true, false, not, ◌&&◌, ◌||◌, cond, inl, inr, refl, sym, ap, ◌∙◌, arith, zero-add, List, [], ◌∷◌, ◌++◌, append-nil, length, get_or, map, take, Option, Some, None}
+use Rattle.std.proofs.Common.{◌≡◌, ℕ, zero, suc, ◌+◌, ◌<◌, ◌≤◌, Bool, true, false, not, ◌&&◌, ◌||◌, cond, inl, inr, refl, sym, ap, ◌∙◌, arith, zero-add, List, [], ◌∷◌, ◌++◌, length, get_or, map, take, Option, Some, None}
 use Rattle.std.specs.Prelude.{filter, slice_get}
 use Rattle.std.specs.List.{flat_map, list_any, range_with_len}
 use Rattle.std.proofs.lemmas.Bool.{cases_eq, eq-eqb, ne_eqb, or_left, or_right}
@@ -17,7 +17,7 @@ use Rattle.slack_rows.specs.declared.parameter.Word.{Word as Limit}
 use Rattle.slack_rows.specs.declared.parameter.Word.TheVariants.{Gate, Before as GateBefore, After as GateAfter, Assert, From as StableFrom, To as StableTo}
 use Rattle.slack_rows.specs.declared.parameter.Subject.{Subject}
 use Rattle.slack_rows.specs.declared.parameter.Subject.TheVariants.{Instance as OfInstance, Net as OfNet}
-use Rattle.slack_rows.specs.Limit.{beside, is_beside, is_on, is_on_net}
+use Rattle.slack_rows.specs.Limit.{is_beside, is_on, is_on_net}
 use Rattle.slack_rows.specs.Rows.{all_limits, if_some, limit_in, limit_of, limits_at, limits_of_instance, limits_of_mark, limits_of_net}
 
 -- ---- numbers of a range that pass

@@ -1,5 +1,5 @@
 -- Where a region lies about a window, by ticks as the program counts them.
-use Rattle.std.proofs.Common.{◌≡◌, ℕ, ◌+◌, ◌-◌, ◌*◌, ◌<◌, ◌≤◌, Bool, true, false, not, ◌&&◌, ◌||◌, cond, refl, sym, ap, subst, ◌∙◌, arith, Option, Some, None}
+use Rattle.std.proofs.Common.{◌≡◌, ℕ, ◌+◌, ◌-◌, ◌*◌, ◌≤◌, Bool, true, false, not, ◌&&◌, ◌||◌, cond, refl, sym, ap, subst, ◌∙◌, arith, Option, Some, None}
 use Rattle.std.specs.Prelude.{ℤ, pos, negsuc, ◌+ℤ◌, ◌-ℤ◌, ◌≤ℤ◌, int_lt, nat_le, nat_lt, unsigned_abs}
 use Rattle.std.proofs.lemmas.Int.{ints}
 use Rattle.critical_paths.specs.declared.region.Region.{Region as Ticked}
@@ -7,8 +7,7 @@ use Rattle.critical_paths.specs.Region.{Region}
 use Rattle.slack_rows.specs.declared.around.Side.{Side as Counted}
 use Rattle.slack_rows.specs.declared.around.Side.TheVariants.{Before as LiesBefore, Late as CountsLate, Early as CountsEarly, Either as CountsEither, Two as CountsTwo, After as LiesAfter}
 use Rattle.slack_rows.specs.declared.window.Window.{Window as Ticks}
-use Rattle.slack_rows.specs.Window.{Window, Side, Late, Early, Either, begins_before, counts_after, counts_before, ends_after, is_after, is_before, is_early, is_late, meets, side_by_ends, side_of}
-use Rattle.slack_rows.specs.Slack.{is_open}
+use Rattle.slack_rows.specs.Window.{Window, Side, begins_before, ends_after, is_after, is_before, is_early, is_late, side_by_ends}
 use Rattle.slack_rows.specs.Views.{ahead_of, counts_first, counts_last, is_two, meets_window, side_in, window_in, region_in}
 use Rattle.slack_rows.specs.Held.{IsClose, IsCloseWindow, Lies, lies_by_ends, lies_open}
 use Rattle.slack_rows.proofs.Windows.{false_le, false_lt, lt_false, true_le, true_lt}

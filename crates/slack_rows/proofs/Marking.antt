@@ -1,5 +1,5 @@
 -- What is told of the pins beside a marked one, one after another, and of a net's steps in each direction.
-use Rattle.std.proofs.Common.{◌≡◌, ℕ, zero, suc, ◌+◌, ◌<◌, Bool, true, false, not, ◌&&◌, ◌||◌, cond, refl, sym, ap, subst, ◌∙◌, arith, zero-add, List, [], ◌∷◌, ◌++◌, length, map, Option, Some, None}
+use Rattle.std.proofs.Common.{◌≡◌, ℕ, ◌+◌, Bool, true, false, not, ◌&&◌, ◌||◌, cond, refl, sym, ap, subst, ◌∙◌, zero-add, List, [], ◌∷◌, ◌++◌, length, map, Option, Some, None}
 use Rattle.std.specs.Prelude.{filter}
 use Rattle.std.specs.Option.{option_map}
 use Rattle.step_values.specs.declared.value.Value.{Value}
@@ -30,7 +30,7 @@ use Rattle.slack_rows.specs.declared.parameter.Word.TheVariants.{Gate, Before as
 use Rattle.slack_rows.specs.declared.slack.Slacks.{Slacks}
 use Rattle.slack_rows.specs.declared.slack.Told.{Told as Found}
 use Rattle.slack_rows.specs.Window.{Window, met}
-use Rattle.slack_rows.specs.Slack.{AtLevel, Free, NoNumber, Told, is_less, is_open, least, lesser, no_launches, told_after, told_alone, told_at, told_before, told_of, two_alone, two_in}
+use Rattle.slack_rows.specs.Slack.{AtLevel, Free, NoNumber, Told, is_open, least, lesser, no_launches, told_after, told_alone, told_at, told_before, told_of, two_alone, two_in}
 use Rattle.slack_rows.specs.Limit.{beside_by_arrivals, in_windows, is_beside, mark_by_arrivals, told_mark, told_never, told_outside, told_pin}
 use Rattle.slack_rows.specs.Views.{Tells, lesser_found, slack_told, told_level_by}
 use Rattle.slack_rows.specs.Held.{AreAlike, IsLevelIn, IsLevelTold, TellBeside, TellDirections, TellParts, TellSides, steps_watch}

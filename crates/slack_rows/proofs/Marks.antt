@@ -1,39 +1,21 @@
 -- A marked gate has a hazard exactly where one of its slacks is broken.
-use Rattle.std.proofs.Common.{inl, inr, ◌≡◌, ◌≢◌, ◌⊎◌, ◌↔◌, ℕ, zero, suc, ◌+◌, ◌-◌, ◌*◌, ◌%◌, ◌<◌, ◌≤◌, Bool, true, false, not, ◌&&◌, cond, get_or, refl, sym, ap, subst, ◌∙◌, arith, List, [], ◌∷◌, length, map, Option, Some, None}
-use Rattle.std.specs.Prelude.{◌==◌, filter, is_none, is_some, slice_get}
-use Rattle.std.specs.List.{range_with_len}
+use Rattle.std.proofs.Common.{◌≡◌, ℕ, ◌-◌, ◌<◌, Bool, true, false, not, cond, refl, sym, ap, ◌∙◌, arith, List, [], length, Option, Some, None}
+use Rattle.std.specs.Prelude.{◌==◌, is_none, is_some}
 use Rattle.std.specs.Option.{option_map}
-use Rattle.std.proofs.lemmas.Bool.{and_from, and_parts, not-false, not-true}
+use Rattle.std.proofs.lemmas.Bool.{and_from, and_parts, not-true}
 use Rattle.std.proofs.lemmas.List.{get_or-map, length-map}
-use Rattle.std.proofs.lemmas.Option.{get_or_from_slice_get, slice_get_within}
-use Rattle.scald_base.specs.Clock.{back}
-use Rattle.scald_base.specs.Time.{period}
-use Rattle.scald_base.proofs.Back.{back_later, back_zero, mod_small}
-use Rattle.vector_names.specs.declared.bits.Target.{Target}
-use Rattle.vector_names.specs.declared.bits.Target.TheVariants.{Net as OnNet, Constant}
 use Rattle.step_values.specs.declared.value.Value.{Value}
-use Rattle.step_values.specs.declared.value.Value.TheVariants.{Zero, One, U}
-use Rattle.step_values.specs.Steps.{flip, has, is_quiet}
+use Rattle.step_values.specs.declared.value.Value.TheVariants.{U}
+use Rattle.step_values.specs.Steps.{is_quiet}
 use Rattle.step_values.specs.Cell.{values}
-use Rattle.step_values.specs.Lawful.{values_lawful}
-use Rattle.wave_core.specs.Slots.{earlier}
-use Rattle.wave_core.proofs.Slots.{earlier_slots, length_slots}
-use Rattle.skew_algebra.specs.Wave.{Wave, flipped, fold, moved, skewed}
-use Rattle.pin_waves.specs.Interface.{constant_wave}
+use Rattle.skew_algebra.specs.Wave.{Wave, fold, skewed}
 use Rattle.element_kinds.specs.declared.kind.Kind.{Kind}
-use Rattle.flat_circuit.specs.declared.instance.Instance.{Instance}
-use Rattle.flat_circuit.specs.declared.instance.Pin.{Pin}
-use Rattle.flat_circuit.specs.Circuit.{Circuit}
 use Rattle.gate_eval.specs.Instance.{wave_of_pin}
 use Rattle.gate_eval.specs.Meeting.{folds_in, period_of}
 use Rattle.gate_eval.specs.Hold.{disturber, hazard, hazard_beside, is_closed, mover_beside, moves_beside, value_of_pin}
 use Rattle.gate_eval.proofs.Found.{first_some_some}
-use Rattle.fixpoint_engine.specs.Waves.{Waves, marked_pin, pin_wave, pin_waves}
-use Rattle.point_check.specs.Window.{Folds}
 use Rattle.point_check.proofs.Firsts.{first_some_is}
-use Rattle.critical_paths.specs.declared.direction.Direction.TheVariants.{Change}
-use Rattle.critical_paths.specs.Event.{Events, events, moves}
-use Rattle.slack_rows.specs.Limit.{pin_folds}
+use Rattle.critical_paths.specs.Event.{moves}
 
 -- ---- constants do not change
 

@@ -1,5 +1,5 @@
 -- The narrowest pulse is the last of those that are found one after another, each narrower than the one before.
-use Rattle.std.proofs.Common.{inl, inr, ◌≡◌, ℕ, zero, suc, ◌+◌, ◌-◌, ◌<◌, ◌≤◌, Bool, true, false, cond, refl, sym, ap, subst, ◌∙◌, arith, List, [], ◌∷◌, Option, Some, None}
+use Rattle.std.proofs.Common.{inl, inr, ◌≡◌, ℕ, zero, suc, ◌+◌, ◌<◌, ◌≤◌, Bool, true, false, cond, refl, sym, ap, subst, ◌∙◌, arith, List, Option, Some, None}
 use Rattle.std.specs.Prelude.{filter_map, nat_lt}
 use Rattle.std.specs.List.{cons_option, range_with_len}
 use Rattle.std.specs.Option.{option_or}

@@ -1,17 +1,17 @@
 -- The last change before a window and the first after it, among the regions of eight periods.
-use Rattle.std.proofs.Common.{inl, inr, ◌≡◌, ℕ, zero, suc, ◌+◌, ◌-◌, ◌*◌, ◌<◌, ◌≤◌, Bool, true, false, not, ◌&&◌, ◌||◌, cond, refl, sym, ap, subst, ◌∙◌, arith, List, [], ◌∷◌, map, Option, Some, None}
-use Rattle.std.specs.Prelude.{IfSome, filter, nat_le, nat_lt}
+use Rattle.std.proofs.Common.{inl, inr, ◌≡◌, ℕ, zero, suc, ◌+◌, ◌-◌, ◌*◌, ◌<◌, ◌≤◌, Bool, true, false, not, ◌&&◌, ◌||◌, cond, refl, sym, ap, subst, ◌∙◌, arith, List, ◌∷◌, map, Option, Some, None}
+use Rattle.std.specs.Prelude.{IfSome, filter}
 use Rattle.std.specs.List.{range_with_len}
 use Rattle.std.specs.Option.{option_map, option_or}
 use Rattle.std.proofs.lemmas.Bool.{and_from, and_parts, cases_eq, cases_lt}
 use Rattle.critical_paths.specs.Event.{Events, is_first, is_last}
-use Rattle.critical_paths.specs.Region.{IsCyclic, IsRegion, Region, first_from, last_up_to, region_from, region_to, regions_from}
-use Rattle.critical_paths.proofs.Searches.{IsFirst, IsLast, first_from_is, last_up_to_is}
+use Rattle.critical_paths.specs.Region.{IsCyclic, IsRegion, Region, region_from, region_to, regions_from}
+use Rattle.critical_paths.proofs.Searches.{first_from_is, last_up_to_is}
 use Rattle.critical_paths.proofs.Runs.{IsAround, around, first_tick, last_tick, not_first, not_last, not_true, region_from_is, region_to_is, short_region}
-use Rattle.slack_rows.specs.Window.{Window, Side, counts_after, counts_before, is_after, is_before, is_early, is_late, meets, side_of}
+use Rattle.slack_rows.specs.Window.{Window, Side, counts_after, counts_before, is_after, is_before, is_late, meets, side_of}
 use Rattle.slack_rows.specs.Slack.{first_after, last_before}
 use Rattle.slack_rows.specs.Laws.{IsPlaced}
-use Rattle.slack_rows.proofs.Windows.{false_le, false_lt, le_true, true_le, true_lt}
+use Rattle.slack_rows.proofs.Windows.{false_lt, le_true, true_le}
 use Rattle.slack_rows.proofs.Regions.{region_down}
 use Rattle.slack_rows.specs.Held.{first_item, last_item}
 use Rattle.slack_rows.proofs.Nothing.{nothing_from, nothing_up_to}

@@ -1,5 +1,5 @@
 -- A driven net breaks its assertion exactly where one of its slacks is broken.
-use Rattle.std.proofs.Common.{inl, inr, ◌≡◌, ◌≢◌, ◌⊎◌, ◌↔◌, ℕ, ◌+◌, ◌-◌, ◌%◌, ◌<◌, ◌≤◌, Bool, true, false, not, ◌&&◌, ◌||◌, cond, get_or, refl, sym, ap, subst, ◌∙◌, arith, List, [], ◌∷◌, length, Option, Some, None}
+use Rattle.std.proofs.Common.{inl, inr, ◌≡◌, ◌≢◌, ◌⊎◌, ◌↔◌, ℕ, ◌+◌, ◌<◌, ◌≤◌, Bool, true, false, not, ◌&&◌, ◌||◌, cond, get_or, refl, sym, ap, subst, ◌∙◌, arith, List, [], ◌∷◌, length, Option, Some, None}
 use Rattle.std.specs.Prelude.{is_some, slice_get}
 use Rattle.std.specs.Option.{option_map}
 use Rattle.std.proofs.lemmas.Bool.{and_parts, or_from}
@@ -10,21 +10,18 @@ use Rattle.scald_base.specs.Clock.{back}
 use Rattle.scald_base.specs.Quiet.{quiet}
 use Rattle.scald_base.specs.Time.{Header, period}
 use Rattle.scald_base.proofs.Back.{back_zero, mod_small}
-use Rattle.step_values.specs.declared.value.Value.{Value}
 use Rattle.step_values.specs.declared.value.Value.TheVariants.{S, C, U}
 use Rattle.step_values.specs.Steps.{has}
 use Rattle.step_values.specs.Cell.{values}
 use Rattle.wave_core.specs.Slots.{earlier}
 use Rattle.wave_core.proofs.Slots.{earlier_slots, length_slots}
-use Rattle.skew_algebra.specs.Wave.{Wave, cell_at, fold}
+use Rattle.skew_algebra.specs.Wave.{cell_at, fold}
 use Rattle.skew_algebra.proofs.Moves.{earlier_folded}
-use Rattle.skew_algebra.proofs.Normal.{length_normal}
-use Rattle.pin_waves.specs.Interface.{asserted_wave, interface_wave, stable_wave, wide_wave}
+use Rattle.pin_waves.specs.Interface.{interface_wave, stable_wave, wide_wave}
 use Rattle.pin_waves.proofs.Asserted.{length_interface}
 use Rattle.flat_circuit.specs.declared.net.Net.{Net}
 use Rattle.flat_circuit.specs.Builder.{is_asserted}
 use Rattle.flat_circuit.specs.Circuit.{Circuit}
-use Rattle.fixpoint_engine.specs.Pins.{read}
 use Rattle.fixpoint_engine.specs.Waves.{Waves}
 use Rattle.point_check.specs.Window.{Folds}
 use Rattle.point_check.specs.Assertion.{assertion_fault, exceeds, fault_in, first_excess, is_held}
@@ -33,14 +30,13 @@ use Rattle.critical_paths.specs.declared.direction.Direction.TheVariants.{Rise, 
 use Rattle.critical_paths.specs.Event.{moves}
 use Rattle.critical_paths.proofs.Moving.{moves_normal, normal_moves}
 use Rattle.critical_paths.proofs.Runs.{not_true}
-use Rattle.slack_rows.specs.declared.parameter.Word.{Word as Limit}
 use Rattle.slack_rows.specs.declared.parameter.Word.TheVariants.{Assert, From as StableFrom, To as StableTo}
 use Rattle.slack_rows.specs.Slack.{Free, told_alone}
 use Rattle.slack_rows.specs.Watch.{directions_of, permitted}
 use Rattle.slack_rows.specs.Limit.{told_held, told_in, told_net}
 use Rattle.slack_rows.specs.Laws.{AreWaves, IsBroken, NetsBreakWithFaults, SomeOf}
 use Rattle.slack_rows.proofs.Checkers.{folds_repeat}
-use Rattle.slack_rows.proofs.Excess.{IsExceeded, IsMetBy, exceeded_excess, excess_breaks, excess_exceeded, outside, step_met}
+use Rattle.slack_rows.proofs.Excess.{IsMetBy, exceeded_excess, excess_breaks, excess_exceeded, outside, step_met}
 
 either : (a b : Bool) → (a || b) ≡ true → (a ≡ true) ⊎ (b ≡ true)
 either true b is = inl refl

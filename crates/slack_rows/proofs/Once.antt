@@ -1,6 +1,6 @@
 -- How many limits are broken, and which of them are told once.
 use Rattle.std.proofs.Common.{inl, inr, ◌≡◌, ◌⊎◌, ℕ, zero, suc, ◌+◌, ◌-◌, ◌<◌, ◌≤◌, Bool, true, false, not, ◌&&◌, ◌||◌, cond, refl, sym, ap, subst, ◌∙◌, arith, List, [], ◌∷◌, ◌++◌, length, map, take, Option, Some, None}
-use Rattle.std.specs.Prelude.{◌==◌, filter, is_none, is_some, slice_get, slice_index_or}
+use Rattle.std.specs.Prelude.{◌==◌, filter, is_some, slice_get, slice_index_or}
 use Rattle.std.specs.List.{count_by, flat_map, list_any}
 use Rattle.std.proofs.lemmas.Bool.{or_left, or_right}
 use Rattle.std.proofs.lemmas.List.{length-map, map-append}
@@ -14,14 +14,13 @@ use Rattle.slack_rows.specs.declared.rows.Least.{Least}
 use Rattle.slack_rows.specs.Slack.{Slack, Free, Ticks, Way, NoNumber, Told, is_broken, is_free}
 use Rattle.slack_rows.specs.Limit.{Case, least_told}
 use Rattle.slack_rows.specs.Rows.{Row, all_limits, all_rows, are_one_region, broken_count, first_with, have_no_number, is_own_row, is_same_pin, is_told, is_told_by, limit_with, limits_at, limits_of, own_rows, partner, row, slack_of, some_broken, subjects, told_once}
-use Rattle.slack_rows.specs.Known.{AreKnown, BreaksBoth, IsKnown, are_sure, breaks, in_one_case, is_sure, least_at, may_be_two, told_least}
+use Rattle.slack_rows.specs.Known.{AreKnown, BreaksBoth, IsKnown, breaks, in_one_case, is_sure, least_at, may_be_two, told_least}
 use Rattle.slack_rows.specs.Views.{Tells}
 use Rattle.slack_rows.proofs.Blocks.{after_it, before_it, follows}
 use Rattle.slack_rows.proofs.Gathering.{filter_both, filter_through}
 use Rattle.slack_rows.proofs.Levels.{read_at}
 use Rattle.slack_rows.proofs.Sided.{at_back}
 use Rattle.slack_rows.proofs.Stepwise.{item_at, some_same, within_list}
-use Rattle.slack_rows.proofs.Totals.{sure_at}
 
 -- ---- some of a list
 

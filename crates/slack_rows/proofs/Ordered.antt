@@ -3,7 +3,7 @@ use Rattle.std.proofs.Common.{◌≡◌, Bool, true, false, cond, refl}
 use Rattle.std.specs.Prelude.{pos, int_lt}
 use Rattle.slack_rows.specs.declared.slack.Slack.{Slack as Number}
 use Rattle.slack_rows.specs.declared.slack.Slack.TheVariants.{NoNumber as NumberOfNone, Ticks as NumberOfTicks, Way as NumberOfWay}
-use Rattle.slack_rows.specs.Slack.{Slack, Free, Ticks, Way, NoNumber, is_broken, is_less}
+use Rattle.slack_rows.specs.Slack.{Slack, Free, Ticks, Way, NoNumber, is_less}
 use Rattle.slack_rows.specs.Views.{slack_by}
 
 same_false : (b : Bool) → cond b false false ≡ false

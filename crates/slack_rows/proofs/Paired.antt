@@ -1,5 +1,5 @@
 -- Two launches that may make the only region that meets a window: whichever is told, neither side is free, and one is broken.
-use Rattle.std.proofs.Common.{inl, inr, ◌≡◌, ◌⊎◌, ℕ, zero, suc, ◌+◌, ◌*◌, ◌<◌, ◌≤◌, Bool, true, false, not, ◌&&◌, ◌||◌, cond, refl, sym, ap, ◌∙◌, arith, List, [], ◌∷◌, map, Option, Some, None}
+use Rattle.std.proofs.Common.{inl, inr, ◌≡◌, ◌⊎◌, ℕ, ◌*◌, ◌<◌, ◌≤◌, Bool, true, false, not, ◌&&◌, ◌||◌, cond, refl, sym, ap, ◌∙◌, arith, List, [], ◌∷◌, Option, Some, None}
 use Rattle.std.specs.Prelude.{ℤ, pos, int_lt, int_le, filter, is_some}
 use Rattle.std.specs.List.{range_with_len}
 use Rattle.std.specs.Option.{option_map, option_or}
@@ -9,9 +9,9 @@ use Rattle.flat_circuit.specs.Circuit.{Circuit}
 use Rattle.fixpoint_engine.specs.Waves.{Waves}
 use Rattle.critical_paths.specs.Event.{Events}
 use Rattle.critical_paths.specs.Region.{IsCyclic, Region, all_events, regions_from}
-use Rattle.slack_rows.specs.declared.sides.Held.{Held}
+use Rattle.slack_rows.specs.declared.held.Held.{Held}
 use Rattle.slack_rows.specs.Window.{Window, Side, Late, Early, Either, begins_before, counts_after, counts_before, ends_after, is_after, is_before, is_early, is_late, meets, met, side_by_ends, side_of}
-use Rattle.slack_rows.specs.Slack.{Launches, Slack, after_at, after_by, after_window, before_at, before_by, before_window, first_after, is_broken, is_free, is_open, last_before, two_alone, two_in, two_launches}
+use Rattle.slack_rows.specs.Slack.{Launches, after_at, after_by, after_window, before_at, before_by, before_window, first_after, is_broken, is_free, is_open, last_before, two_alone, two_in, two_launches}
 use Rattle.slack_rows.specs.Laws.{IsPlaced, IsTouched}
 use Rattle.slack_rows.specs.Launched.{are_two, side_by}
 use Rattle.slack_rows.specs.Held.{BreakOne, first_ago, first_item, last_ago, last_item, launches_of, two_of}

@@ -1,19 +1,16 @@
 -- What is told of changes that are not to come in some slots, and of the pins of a checker and of a gate.
-use Rattle.std.proofs.Common.{inl, inr, ◌≡◌, ◌⊎◌, ℕ, zero, suc, ◌+◌, ◌-◌, ◌*◌, ◌%◌, ◌<◌, ◌≤◌, Bool, true, false, not, ◌&&◌, ◌||◌, cond, refl, sym, ap, subst, ◌∙◌, arith, List, [], ◌∷◌, ◌++◌, length, map, Option, Some, None}
+use Rattle.std.proofs.Common.{◌≡◌, ℕ, zero, suc, ◌+◌, ◌-◌, ◌≤◌, Bool, true, false, not, ◌&&◌, ◌||◌, cond, refl, sym, ap, subst, ◌∙◌, arith, List, [], ◌∷◌, length, map, Option, Some, None}
 use Rattle.std.specs.Prelude.{◌==◌, filter, slice_get}
-use Rattle.std.specs.List.{AllByRecursion, list_any, range_with_len}
-use Rattle.std.proofs.lemmas.Bool.{and_parts, eqb-true}
+use Rattle.std.specs.List.{list_any, range_with_len}
+use Rattle.std.proofs.lemmas.Bool.{eqb-true}
 use Rattle.std.proofs.lemmas.List.{get_or-map}
-use Rattle.std.proofs.lemmas.List.Folds.{list_any-append}
 use Rattle.std.proofs.lemmas.Option.{get_or_from_slice_get, slice_get_within}
 use Rattle.scald_base.specs.Time.{Header, period}
 use Rattle.scald_base.specs.Clock.{back}
-use Rattle.step_values.specs.declared.value.Value.{Value}
-use Rattle.step_values.specs.Steps.{has}
 use Rattle.step_values.specs.Cell.{values}
 use Rattle.skew_algebra.specs.Wave.{fold, skewed}
 use Rattle.element_kinds.specs.declared.form.Check.{Check}
-use Rattle.element_kinds.specs.declared.form.Check.TheVariants.{SetupHold as AboutRise, RiseFall as RiseToFall, MinPulse as Widths}
+use Rattle.element_kinds.specs.declared.form.Check.TheVariants.{MinPulse as Widths}
 use Rattle.element_kinds.specs.declared.kind.Kind.{Kind}
 use Rattle.element_kinds.specs.declared.kind.Kind.TheVariants.{Buf, And, Or, Xor, Mux2, Mux4, Mux8, Chg, Reg, RegRs, Latch, LatchRs, SetupHold, RiseFall, MinPulse}
 use Rattle.element_kinds.specs.Kinds.{check_of}
@@ -23,30 +20,26 @@ use Rattle.flat_circuit.specs.Limits.{setup_of, hold_of}
 use Rattle.flat_circuit.specs.declared.instance.Pin.{Pin}
 use Rattle.flat_circuit.specs.declared.instance.Instance.{Instance}
 use Rattle.flat_circuit.specs.Circuit.{Circuit}
-use Rattle.gate_eval.specs.Instance.{wave_of_pin}
 use Rattle.gate_eval.specs.Hold.{closed_bit}
-use Rattle.fixpoint_engine.specs.Waves.{Waves, pin_wave, pin_waves}
+use Rattle.fixpoint_engine.specs.Waves.{Waves, pin_wave}
 use Rattle.point_check.specs.Window.{Folds}
 use Rattle.critical_paths.specs.declared.direction.Corner.{Corner}
 use Rattle.critical_paths.specs.declared.direction.Corner.TheVariants.{Late as LateCorner, Early as EarlyCorner}
 use Rattle.critical_paths.specs.declared.direction.Direction.{Direction}
-use Rattle.critical_paths.specs.declared.direction.Direction.TheVariants.{Rise, Fall, Change}
+use Rattle.critical_paths.specs.declared.direction.Direction.TheVariants.{Rise, Change}
 use Rattle.critical_paths.specs.Event.{Events, events}
-use Rattle.critical_paths.specs.Region.{IsCyclic, Region, all_events, first_from, regions, some_event}
+use Rattle.critical_paths.specs.Region.{IsCyclic, Region, all_events, regions, some_event}
 use Rattle.critical_paths.specs.Walk.{pin_path_of}
 use Rattle.critical_paths.specs.Launch.{Edge, ago, edge_of_pin}
 use Rattle.critical_paths.specs.Arrival.{arrivals_of}
-use Rattle.critical_paths.specs.Views.{ticks_of_region}
-use Rattle.slack_rows.specs.declared.parameter.Word.{Word as Limit}
-use Rattle.slack_rows.specs.declared.parameter.Word.TheVariants.{Setup, Hold, Gate, Before as GateBefore, After as GateAfter}
-use Rattle.slack_rows.specs.declared.sides.Held.{Held}
+use Rattle.slack_rows.specs.declared.held.Held.{Held}
 use Rattle.slack_rows.specs.declared.slack.Slacks.{Slacks}
 use Rattle.slack_rows.specs.declared.slack.Told.{Told as Found}
 use Rattle.slack_rows.specs.Window.{Window, about, ahead}
-use Rattle.slack_rows.specs.Slack.{Free, Launches, NoNumber, Told, Watch, after_window, before_window, is_met, least, least_from, told_after, told_alone, told_before, told_by, told_of, two_in}
-use Rattle.slack_rows.specs.Watch.{opens, rise_watch, span_watch}
+use Rattle.slack_rows.specs.Slack.{Free, Launches, NoNumber, Told, Watch, after_window, before_window, is_met, least, told_after, told_alone, told_before, told_by, told_of, two_in}
+use Rattle.slack_rows.specs.Watch.{opens}
 use Rattle.slack_rows.specs.Launched.{are_two, checker_launches, gate_launches, launches_at, opening, side_by, two_at_ends, two_by}
-use Rattle.slack_rows.specs.Limit.{beside_by_arrivals, check_by_arrivals, edge_limits, has_no_window, in_windows, is_beside, is_by_arrivals, least_still, pin_folds, rises_of, spans_of, still_after, still_before, told_check, told_edge, told_never, told_pin, told_rise, told_span, told_still, watch_beside}
+use Rattle.slack_rows.specs.Limit.{in_windows, is_beside, is_by_arrivals, least_still, pin_folds, still_after, still_before, told_never, told_still}
 use Rattle.slack_rows.specs.Views.{IsTold, Tells, checks_edges}
 use Rattle.slack_rows.specs.Held.{AreAlike, TellBeside, TellParts, TellWatch, TellWindows, launches_of, two_of, watch_at}
 use Rattle.slack_rows.proofs.Checkers.{edges_short}

@@ -1,15 +1,12 @@
 -- A watch, in two parts: a change that is never to come, and those in windows.
-use Rattle.std.proofs.Common.{inl, inr, ◌≡◌, ◌⊎◌, ◌↔◌, ℕ, ◌+◌, ◌-◌, ◌*◌, ◌<◌, ◌≤◌, Bool, true, false, ◌&&◌, cond, refl, sym, ap, ◌∙◌, arith, List, [], ◌∷◌, map}
-use Rattle.std.specs.Prelude.{filter}
-use Rattle.std.specs.List.{AllByRecursion, range_with_len}
+use Rattle.std.proofs.Common.{inl, inr, ◌≡◌, ◌⊎◌, ◌↔◌, ℕ, ◌≤◌, Bool, true, false, ◌&&◌, cond, refl, arith, List, [], ◌∷◌, map}
+use Rattle.std.specs.List.{AllByRecursion}
 use Rattle.std.proofs.lemmas.Bool.{and_from, and_parts}
-use Rattle.critical_paths.specs.Event.{Events}
 use Rattle.critical_paths.specs.Region.{IsCyclic, some_event}
-use Rattle.slack_rows.specs.Slack.{Free, NoNumber, Launches, Told, Watch, is_broken, least, told_after, told_alone, told_before}
+use Rattle.slack_rows.specs.Slack.{Free, NoNumber, Launches, Told, Watch, least, told_after, told_alone, told_before}
 use Rattle.slack_rows.specs.Limit.{in_windows, told_never}
 use Rattle.slack_rows.specs.Laws.{IsBroken, IsPlaced, IsTouchedWatch, SomeOf, SomeTick}
 use Rattle.slack_rows.proofs.Broken.{least_breaks, least_broken}
-use Rattle.slack_rows.proofs.Somewhere.{SomePassing, passing_some, some_passing}
 use Rattle.slack_rows.proofs.Watched.{broken_where_touched, in_some_slot, some_tick}
 
 -- ---- one watch

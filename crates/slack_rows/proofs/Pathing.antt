@@ -1,5 +1,5 @@
 -- Paths that go on as more of them are found, and the pins that they go by.
-use Rattle.std.proofs.Common.{◌≡◌, ℕ, ◌<◌, List, [], ◌∷◌, ◌++◌, length, get_or, slice_get, refl, sym, ap, subst, ◌∙◌, append-nil, append_assoc, Some}
+use Rattle.std.proofs.Common.{◌≡◌, ℕ, ◌<◌, List, [], ◌∷◌, ◌++◌, length, slice_get, refl, sym, ap, subst, ◌∙◌, append-nil, append_assoc, Some}
 use Rattle.std.specs.List.{All}
 use Rattle.std.proofs.lemmas.List.Elements.{All-nil, All-cons, All-get_or, All-head, All-tail}
 use Rattle.std.proofs.lemmas.Option.{get_or_from_slice_get, slice_get_within}
@@ -12,11 +12,11 @@ use Rattle.flat_circuit.specs.Instances.{InstanceFits, PinExists, TargetExists}
 use Rattle.fixpoint_engine.specs.Waves.{Waves}
 use Rattle.critical_paths.specs.declared.event.Stop.{Stop}
 use Rattle.critical_paths.specs.declared.path.Node.{Node}
-use Rattle.critical_paths.specs.Told.{Grows, Knows}
+use Rattle.critical_paths.specs.Known.{Grows, Knows}
 use Rattle.critical_paths.specs.Views.{IsPin}
 use Rattle.critical_paths.specs.declared.direction.Corner.{Corner}
 use Rattle.critical_paths.specs.declared.direction.Corner.TheVariants.{Late, Early}
-use Rattle.slack_rows.specs.declared.sides.Held.{Held}
+use Rattle.slack_rows.specs.declared.held.Held.{Held}
 use Rattle.slack_rows.specs.declared.window.Window.{Window}
 use Rattle.slack_rows.specs.Held.{GoesOn, step_held}
 

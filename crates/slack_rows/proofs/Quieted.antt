@@ -1,5 +1,5 @@
 -- The quiet slots up to a slot and after it.
-use Rattle.std.proofs.Common.{◌≡◌, ℕ, ◌+◌, ◌-◌, ◌*◌, ◌%◌, ◌<◌, ◌≤◌, Bool, true, false, not, refl, sym, ap, ◌∙◌, arith, List, length, slice_get, Option, Some, None}
+use Rattle.std.proofs.Common.{◌≡◌, ℕ, ◌+◌, ◌-◌, ◌*◌, ◌%◌, ◌<◌, true, false, not, refl, sym, ap, ◌∙◌, arith, List, length, slice_get, Some, None}
 use Rattle.std.proofs.Math.Nat.{add-mul-mod_self_right}
 use Rattle.step_values.specs.declared.value.Value.{Value}
 use Rattle.step_values.specs.Steps.{has, is_quiet}
@@ -8,7 +8,6 @@ use Rattle.wave_core.proofs.Places.{round_cell}
 use Rattle.fixpoint_engine.specs.Pins.{read}
 use Rattle.critical_paths.specs.declared.direction.Direction.TheVariants.{Change}
 use Rattle.critical_paths.specs.Event.{Events, events, moves}
-use Rattle.critical_paths.specs.Region.{first_from}
 use Rattle.slack_rows.specs.Limit.{still_after, still_before}
 use Rattle.slack_rows.specs.Window.{ahead}
 use Rattle.slack_rows.proofs.Changes.{moving}

@@ -1,9 +1,7 @@
 -- A checker about the rise of its clock has a fault exactly where its input may change in one of the windows.
-use Rattle.std.proofs.Common.{◌≡◌, ℕ, ◌+◌, ◌-◌, ◌<◌, ◌≤◌, Bool, true, false, not, refl, sym, ap, subst, ◌∙◌, arith, Option, Some, None}
+use Rattle.std.proofs.Common.{◌≡◌, ℕ, ◌+◌, ◌≤◌, true, false, not, refl, ap, subst, ◌∙◌, arith}
 use Rattle.scald_base.specs.Clock.{back}
-use Rattle.step_values.specs.declared.value.Value.{Value}
-use Rattle.step_values.specs.declared.value.Value.TheVariants.{Zero, One, S, C, R, F, U}
-use Rattle.step_values.specs.Steps.{has, is_quiet}
+use Rattle.step_values.specs.Steps.{has}
 use Rattle.element_kinds.specs.declared.kind.Kind.TheVariants.{SetupHold}
 use Rattle.flat_circuit.specs.declared.limits.Limits.{Limits}
 use Rattle.flat_circuit.specs.Limits.{setup_of, hold_of}
@@ -17,7 +15,7 @@ use Rattle.slack_rows.specs.Limit.{edge_limits}
 use Rattle.slack_rows.specs.Laws.{IsTouchedWatch}
 use Rattle.slack_rows.proofs.Changes.{moving, unquiet}
 use Rattle.slack_rows.proofs.Searched.{IsFaulty, IsHit}
-use Rattle.slack_rows.proofs.Touching.{IsMet, met_touches, touched_met}
+use Rattle.slack_rows.proofs.Touching.{met_touches, touched_met}
 
 module _ (p : ℕ) (long : 2 ≤ p) (clock input : Folds) (clock_cyclic : (t : ℕ) → clock (t + p) ≡ clock t)
     (input_cyclic : (t : ℕ) → input (t + p) ≡ input t) (limits : Limits) (short : setup_of limits + hold_of limits ≤ p) where

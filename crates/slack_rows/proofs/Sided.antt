@@ -1,8 +1,7 @@
 -- Whether limits are free and whether they are broken, of two sides together, as one case more comes limit by limit.
-use Rattle.std.proofs.Common.{inl, inr, ◌≡◌, ◌⊎◌, ℕ, zero, suc, ◌+◌, ◌-◌, ◌<◌, ◌≤◌, Bool, true, false, not, ◌&&◌, ◌||◌, cond, refl, sym, ap, subst, ◌∙◌, arith, List, [], ◌∷◌, ◌++◌, length, Option, Some, None}
+use Rattle.std.proofs.Common.{inl, inr, ◌≡◌, ℕ, zero, suc, ◌+◌, ◌-◌, ◌<◌, ◌≤◌, Bool, true, false, ◌&&◌, ◌||◌, cond, refl, sym, ap, subst, ◌∙◌, arith, List, [], ◌∷◌, ◌++◌, length, Option, Some, None}
 use Rattle.std.specs.Prelude.{is_none, nat_le, slice_get, slice_index_or, slice_set}
-use Rattle.std.specs.List.{list_any}
-use Rattle.std.proofs.lemmas.Bool.{cases_eq, or_left, or_right}
+use Rattle.std.proofs.lemmas.Bool.{cases_eq}
 use Rattle.flat_circuit.specs.Circuit.{Circuit}
 use Rattle.fixpoint_engine.specs.Waves.{Waves}
 use Rattle.slack_rows.specs.declared.parameter.Parameter.{Parameter}
@@ -13,16 +12,15 @@ use Rattle.slack_rows.specs.declared.slack.Slack.{Slack as Number}
 use Rattle.slack_rows.specs.declared.slack.Slack.TheVariants.{NoNumber as NumberOfNone, Ticks as NumberOfTicks, Way as NumberOfWay}
 use Rattle.slack_rows.specs.declared.slack.Slacks.{Slacks}
 use Rattle.slack_rows.specs.declared.slack.Told.{Told as Found}
-use Rattle.slack_rows.specs.Slack.{Slack, Told, is_broken, is_free, is_less}
+use Rattle.slack_rows.specs.Slack.{Told, is_broken, is_free, is_less}
 use Rattle.slack_rows.specs.Limit.{Case, least_told, told_case, told_in}
-use Rattle.slack_rows.specs.Rows.{all_limits, limit_with, partner, some_broken}
-use Rattle.slack_rows.specs.Known.{AreKnown, BreakAlike, BreaksBoth, IsAlike, IsFirst, IsKept, IsLowered, IsLoweredBy, SlacksKnown, breaks, least_at, may_be_two}
+use Rattle.slack_rows.specs.Rows.{all_limits, limit_with, partner}
+use Rattle.slack_rows.specs.Known.{AreKnown, BreakAlike, BreaksBoth, IsAlike, IsLowered, IsLoweredBy, SlacksKnown, breaks, least_at, may_be_two}
 use Rattle.slack_rows.specs.Views.{slack_by, slack_for, slack_told}
 use Rattle.slack_rows.proofs.Alike.{broken_lesser, exchanged, or_first, free_lesser, or_second}
-use Rattle.slack_rows.proofs.Blocks.{after_it, before_it, follower, follows}
+use Rattle.slack_rows.proofs.Blocks.{before_it}
 use Rattle.slack_rows.proofs.Broken.{less_breaks, more_breaks}
 use Rattle.slack_rows.proofs.Keeping.{alike_now}
-use Rattle.slack_rows.proofs.Levels.{read_at}
 use Rattle.slack_rows.proofs.Stepwise.{IsAlikeIn, at_set, beside_set, some_same, within_list}
 use Rattle.slack_rows.proofs.Tellings.{least_map_more}
 

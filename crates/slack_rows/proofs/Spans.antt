@@ -1,12 +1,11 @@
 -- From a rise of a clock to its fall: a checker has a fault exactly where its input may change in one of the windows.
-use Rattle.std.proofs.Common.{inl, inr, ◌≡◌, ◌⊎◌, ℕ, zero, suc, ◌+◌, ◌-◌, ◌*◌, ◌/◌, ◌%◌, ◌<◌, ◌≤◌, Bool, true, false, not, ◌&&◌, cond, refl, sym, ap, subst, ◌∙◌, arith, List, [], ◌∷◌, map, Option, Some, None}
-use Rattle.std.specs.Prelude.{◌==◌, filter_map, is_none, is_some}
+use Rattle.std.proofs.Common.{inl, inr, ◌≡◌, ℕ, zero, suc, ◌+◌, ◌-◌, ◌*◌, ◌/◌, ◌%◌, ◌<◌, ◌≤◌, Bool, true, false, not, ◌&&◌, cond, refl, sym, ap, subst, ◌∙◌, arith, map, Option, Some, None}
+use Rattle.std.specs.Prelude.{◌==◌, filter_map, is_none}
 use Rattle.std.specs.List.{AllByRecursion, cons_option, range_with_len}
 use Rattle.std.specs.Option.{option_map}
 use Rattle.std.proofs.lemmas.Bool.{and_parts, and_from, cases_eq, cases_lt, eq-eqb, ne_eqb}
 use Rattle.std.proofs.Math.Nat.{mod-add-div', mod-lt}
 use Rattle.scald_base.specs.Clock.{back}
-use Rattle.step_values.specs.declared.value.Value.{Value}
 use Rattle.step_values.specs.Steps.{has, is_quiet}
 use Rattle.element_kinds.specs.declared.kind.Kind.TheVariants.{RiseFall}
 use Rattle.flat_circuit.specs.declared.limits.Limits.{Limits}
@@ -14,17 +13,16 @@ use Rattle.flat_circuit.specs.Limits.{setup_of, hold_of}
 use Rattle.gate_eval.specs.Hold.{first_some}
 use Rattle.gate_eval.proofs.Found.{first_some_beyond}
 use Rattle.gate_eval.proofs.Held.{first_some_none}
-use Rattle.point_check.specs.declared.window.Window.{Window as Places}
-use Rattle.point_check.specs.Window.{Folds, places, slot_at}
+use Rattle.point_check.specs.Window.{Folds, slot_at}
 use Rattle.point_check.specs.Point.{all_round, falls_somewhere, first_low, high_window_to, last_fall, last_to, to_last_fall, window_of}
 use Rattle.point_check.proofs.Firsts.{first_some_is}
 use Rattle.critical_paths.specs.declared.direction.Direction.TheVariants.{Rise, Change}
 use Rattle.critical_paths.specs.Event.{Events, events, moves}
 use Rattle.critical_paths.specs.Region.{IsCyclic, Region, some_event}
-use Rattle.slack_rows.specs.Window.{Window, about}
+use Rattle.slack_rows.specs.Window.{about}
 use Rattle.slack_rows.specs.Watch.{fall_of, fall_within, falls_at, may_stay_high, span_at, span_by, span_watch, spans}
 use Rattle.slack_rows.specs.Limit.{edge_limits}
-use Rattle.slack_rows.specs.Laws.{IsPlaced, IsTouched, IsTouchedWatch, SomeOf, SomeTick}
+use Rattle.slack_rows.specs.Laws.{IsPlaced, IsTouched, IsTouchedWatch, SomeOf}
 use Rattle.slack_rows.proofs.Cycles.{in_slot, periods_on, slot_is}
 use Rattle.slack_rows.proofs.Somewhere.{mapped_some, some_mapped}
 use Rattle.slack_rows.proofs.Searched.{IsFaulty, IsHit}

@@ -1,5 +1,5 @@
 -- One case more, limit by limit.
-use Rattle.std.proofs.Common.{inl, inr, ◌≡◌, ◌⊎◌, ℕ, zero, suc, ◌+◌, ◌<◌, ◌≤◌, Bool, true, false, not, ◌&&◌, ◌||◌, cond, refl, sym, ap, subst, ◌∙◌, arith, List, [], ◌∷◌, ◌++◌, map, length, Option, Some, None}
+use Rattle.std.proofs.Common.{inl, inr, ◌≡◌, ℕ, zero, suc, ◌+◌, ◌<◌, ◌≤◌, Bool, true, false, not, ◌||◌, refl, sym, ap, subst, ◌∙◌, arith, List, [], ◌∷◌, ◌++◌, map, length, Option, Some, None}
 use Rattle.std.specs.Prelude.{is_none, slice_get, slice_set}
 use Rattle.std.specs.List.{AllByRecursion, list_any}
 use Rattle.std.proofs.lemmas.Bool.{cases_eq}
@@ -13,7 +13,7 @@ use Rattle.slack_rows.specs.declared.slack.Told.{Told as Found}
 use Rattle.slack_rows.specs.Slack.{is_broken, is_free, is_less}
 use Rattle.slack_rows.specs.Limit.{Case, by_arrivals, least_told, told_case}
 use Rattle.slack_rows.specs.Rows.{all_limits, partner}
-use Rattle.slack_rows.specs.Known.{AreKnown, AreSets, BreaksBoth, IfFound, IsFirst, IsJoined, IsKept, IsKnown, IsLeast, IsLowered, IsLoweredBy, IsNumbered, IsSetWith, breaks, is_sure, may_be_two, numbers_of, places_of}
+use Rattle.slack_rows.specs.Known.{AreKnown, AreSets, BreaksBoth, IsKept, IsKnown, IsLowered, IsLoweredBy, IsNumbered, IsSetWith, breaks, is_sure, may_be_two, numbers_of, places_of}
 use Rattle.slack_rows.specs.Views.{Tells, slack_by}
 use Rattle.slack_rows.proofs.Casewise.{known_more}
 use Rattle.slack_rows.proofs.Places.{number_within, places_same, sets_longer, sets_more}

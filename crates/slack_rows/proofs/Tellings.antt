@@ -1,16 +1,15 @@
 -- What is told of the least of several, one after another.
-use Rattle.std.proofs.Common.{◌≡◌, ℕ, zero, suc, ◌+◌, ◌<◌, Bool, true, false, cond, refl, sym, ap, subst, ◌∙◌, arith, zero-add, List, [], ◌∷◌, ◌++◌, map, Option, Some, None}
+use Rattle.std.proofs.Common.{◌≡◌, ℕ, ◌+◌, Bool, true, false, cond, refl, sym, ap, subst, ◌∙◌, zero-add, List, [], ◌∷◌, ◌++◌, map, Option, Some, None}
 use Rattle.std.specs.Prelude.{filter}
 use Rattle.std.specs.List.{range_with_len}
 use Rattle.std.proofs.lemmas.List.{map-append}
-use Rattle.std.proofs.lemmas.List.Elements.{filter-append}
 use Rattle.vector_names.proofs.Ranges.{range_more}
 use Rattle.critical_paths.specs.declared.direction.Direction.{Direction}
 use Rattle.critical_paths.specs.declared.direction.Direction.TheVariants.{Change}
 use Rattle.critical_paths.specs.Event.{Events}
 use Rattle.slack_rows.specs.Limit.{least_still, told_still}
 use Rattle.slack_rows.specs.declared.slack.Told.{Told as Found}
-use Rattle.slack_rows.specs.Slack.{Slack, Free, Told, is_less, least, least_from, lesser, told_alone, told_of}
+use Rattle.slack_rows.specs.Slack.{Free, Told, is_less, least, least_from, lesser, told_alone, told_of}
 use Rattle.slack_rows.specs.Views.{Tells, lesser_found, slack_told}
 use Rattle.slack_rows.proofs.Kept.{filter_more}
 

@@ -1,13 +1,12 @@
 -- A change about an edge is one in a window, or one that is never to come.
-use Rattle.std.proofs.Common.{inl, inr, ◌≡◌, ◌⊎◌, ℕ, ◌+◌, ◌-◌, ◌*◌, ◌/◌, ◌%◌, ◌<◌, ◌≤◌, Bool, true, false, not, refl, sym, ap, subst, ◌∙◌, arith, List, [], ◌∷◌, map}
+use Rattle.std.proofs.Common.{inl, inr, ◌≡◌, ℕ, ◌+◌, ◌-◌, ◌*◌, ◌/◌, ◌%◌, ◌<◌, ◌≤◌, Bool, true, false, not, refl, sym, ap, subst, ◌∙◌, arith, map}
 use Rattle.std.specs.Prelude.{filter}
 use Rattle.std.specs.List.{range_with_len}
 use Rattle.std.proofs.lemmas.Bool.{and_parts, cases_lt}
 use Rattle.std.proofs.Math.Nat.{mod-add-div', mod-lt}
 use Rattle.scald_base.specs.Clock.{back}
-use Rattle.scald_base.proofs.Back.{back_lt}
 use Rattle.critical_paths.specs.Event.{Events, is_first}
-use Rattle.critical_paths.specs.Region.{IsCyclic, Region, all_events, region_from, regions}
+use Rattle.critical_paths.specs.Region.{IsCyclic, all_events, region_from, regions}
 use Rattle.critical_paths.proofs.Runs.{first_tick, region_from_each, region_from_is, region_from_ordered}
 use Rattle.slack_rows.specs.Window.{about}
 use Rattle.slack_rows.specs.Slack.{Watch}

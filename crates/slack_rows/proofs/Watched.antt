@@ -1,9 +1,9 @@
 -- A watch is broken exactly where data may change in one of its windows, or at all where it is never to.
-use Rattle.std.proofs.Common.{inl, inr, ◌≡◌, ◌⊎◌, ◌↔◌, ℕ, zero, suc, ◌+◌, ◌-◌, ◌*◌, ◌<◌, ◌≤◌, Bool, true, false, not, ◌&&◌, ◌||◌, cond, refl, sym, ap, ◌∙◌, arith, List, [], ◌∷◌, map, Option, Some, None}
+use Rattle.std.proofs.Common.{inl, inr, ◌≡◌, ◌⊎◌, ℕ, zero, suc, ◌+◌, ◌-◌, ◌<◌, ◌≤◌, Bool, true, false, not, ◌&&◌, ◌||◌, cond, refl, sym, ap, ◌∙◌, arith, List, [], ◌∷◌, map, Option, Some, None}
 use Rattle.std.specs.Prelude.{ℤ, is_some, is_none}
 use Rattle.std.specs.List.{AllByRecursion}
-use Rattle.std.proofs.lemmas.Bool.{cases_lt, and_parts}
-use Rattle.slack_rows.specs.Slack.{Free, NoNumber, Launches, Told, Watch, is_broken, before_window, after_window, is_met, least, told_alone, told_by, without_number, told_before, told_after}
+use Rattle.std.proofs.lemmas.Bool.{cases_lt}
+use Rattle.slack_rows.specs.Slack.{Free, Launches, Told, Watch, is_broken, before_window, after_window, is_met, least, told_alone, told_by, without_number, told_before, told_after}
 use Rattle.critical_paths.specs.Event.{Events}
 use Rattle.critical_paths.specs.Region.{IsCyclic, first_from, some_event, all_events}
 use Rattle.slack_rows.specs.Window.{Window}

@@ -1,39 +1,31 @@
 -- What is told of a watch, by the slots of changes and of edges that the program has found.
-use Rattle.std.proofs.Common.{inl, inr, ◌≡◌, ◌⊎◌, ℕ, zero, suc, ◌+◌, ◌-◌, ◌*◌, ◌%◌, ◌<◌, ◌≤◌, Bool, true, false, not, ◌&&◌, ◌||◌, cond, refl, sym, ap, subst, ◌∙◌, arith, List, [], ◌∷◌, ◌++◌, length, map, Option, Some, None}
-use Rattle.std.specs.Prelude.{ℤ, pos, negsuc, ◌+ℤ◌, ◌-ℤ◌, ◌≤ℤ◌, ◌==◌, filter, filter_map, slice_get, unsigned_abs}
-use Rattle.std.specs.List.{All, AllByRecursion, cons_option, list_any, range_with_len}
+use Rattle.std.proofs.Common.{inl, inr, ◌≡◌, ℕ, zero, suc, ◌+◌, ◌-◌, ◌*◌, ◌%◌, ◌<◌, ◌≤◌, Bool, true, false, not, ◌&&◌, ◌||◌, cond, refl, sym, ap, subst, ◌∙◌, arith, List, [], ◌∷◌, length, map, Option, Some, None}
+use Rattle.std.specs.Prelude.{ℤ, pos, ◌+ℤ◌, ◌-ℤ◌, ◌==◌, filter, unsigned_abs}
+use Rattle.std.specs.List.{All, list_any, range_with_len}
 use Rattle.std.proofs.lemmas.Bool.{and_parts, cases_eq, ne_eqb}
 use Rattle.slack_rows.proofs.Cycles.{in_slot}
 use Rattle.std.proofs.lemmas.Int.{ints}
 use Rattle.std.proofs.lemmas.List.Elements.{All-cons, All-map, All-nil}
 use Rattle.std.proofs.Math.Nat.{mod-lt}
 use Rattle.step_values.specs.declared.value.Value.{Value}
-use Rattle.step_values.specs.Steps.{has}
-use Rattle.flat_circuit.specs.declared.instance.Pin.{Pin}
-use Rattle.flat_circuit.specs.declared.instance.Instance.{Instance}
-use Rattle.flat_circuit.specs.Circuit.{Circuit}
 use Rattle.fixpoint_engine.specs.Pins.{read}
-use Rattle.fixpoint_engine.specs.Waves.{Waves}
 use Rattle.critical_paths.specs.declared.direction.Direction.{Direction}
-use Rattle.critical_paths.specs.declared.region.Region.{Region as Ticked}
 use Rattle.critical_paths.specs.declared.region.Slots.{Slots}
-use Rattle.critical_paths.specs.declared.region.Test.TheVariants.{May, Lacks, Unlike}
-use Rattle.critical_paths.specs.Event.{Events, events, is_first, moves}
+use Rattle.critical_paths.specs.declared.region.Test.TheVariants.{May, Lacks}
+use Rattle.critical_paths.specs.Event.{Events, events, is_first}
 use Rattle.critical_paths.specs.Region.{IsCyclic, Region, all_events, region_from, regions, some_event}
 use Rattle.critical_paths.specs.Views.{passing, ticks_of_region}
 use Rattle.critical_paths.proofs.Runs.{first_tick}
-use Rattle.slack_rows.specs.declared.sides.Held.{Held}
 use Rattle.slack_rows.specs.declared.slack.Slacks.{Slacks}
 use Rattle.slack_rows.specs.declared.slack.Told.{Told as Found}
 use Rattle.slack_rows.specs.Window.{Window, about}
-use Rattle.slack_rows.specs.Slack.{Free, Launches, NoNumber, Nowhere, Told, Watch, after_window, before_window, by_way, is_broken, is_free, is_met, least, told_after, told_alone, told_before, told_by, told_of, two_in, without_number}
-use Rattle.slack_rows.specs.Limit.{in_windows, is_by_arrivals, told_never}
-use Rattle.slack_rows.specs.Laws.{IsPlaced}
+use Rattle.slack_rows.specs.Slack.{Free, Launches, NoNumber, Told, Watch, after_window, before_window, by_way, is_broken, is_free, is_met, least, told_after, told_alone, told_before, told_by, told_of, two_in, without_number}
+use Rattle.slack_rows.specs.Limit.{is_by_arrivals}
 use Rattle.slack_rows.specs.Views.{IsTold, Tells, ahead_of, is_starred, slack_told, window_about, window_in}
-use Rattle.slack_rows.specs.Held.{AreAlike, AreChanges, AreOfWays, AreSlots, IsInPeriod, IsSlots, TellParts, TellWatch, TellWindows, lacking, launches_of, place_in, two_of, watch_at, windows_about}
+use Rattle.slack_rows.specs.Held.{AreAlike, AreChanges, AreOfWays, AreSlots, IsInPeriod, IsSlots, TellWatch, TellWindows, lacking, windows_about}
 use Rattle.slack_rows.proofs.Alike.{alike_broken, alike_none, alike_told, starred_break, starred_broken, starred_free}
 use Rattle.slack_rows.proofs.Checkers.{region_ends}
-use Rattle.slack_rows.proofs.Regions.{IsCovered, covered}
+use Rattle.slack_rows.proofs.Regions.{covered}
 use Rattle.slack_rows.proofs.Watched.{every, in_some_slot, some_gap, some_tick}
 
 -- ---- regions in the period

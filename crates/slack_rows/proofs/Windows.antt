@@ -1,15 +1,15 @@
 -- A window's slacks are broken exactly where data may change in it.
-use Rattle.std.proofs.Common.{inl, inr, ◌≡◌, ◌≢◌, ◌⊎◌, ℕ, zero, suc, ◌+◌, ◌-◌, ◌*◌, ◌<◌, ◌≤◌, Bool, true, false, not, ◌&&◌, ◌||◌, cond, refl, sym, ap, subst, ◌∙◌, arith, List, [], ◌∷◌, map, Option, Some, None}
-use Rattle.std.specs.Prelude.{ℤ, pos, negsuc, ◌-ℤ◌, int_lt, int_le, nat_le, nat_lt, filter}
+use Rattle.std.proofs.Common.{inl, inr, ◌≡◌, ◌⊎◌, ℕ, ◌+◌, ◌-◌, ◌*◌, ◌<◌, ◌≤◌, Bool, true, false, not, ◌&&◌, ◌||◌, cond, refl, sym, ap, ◌∙◌, arith, List, [], ◌∷◌, map, Option, Some, None}
+use Rattle.std.specs.Prelude.{pos, ◌-ℤ◌, int_lt, nat_le, nat_lt, filter}
 use Rattle.std.specs.List.{range_with_len}
-use Rattle.std.proofs.lemmas.Bool.{cases_eq, cases_lt, and_parts, and_from}
+use Rattle.std.proofs.lemmas.Bool.{cases_lt, and_parts, and_from}
 use Rattle.std.proofs.lemmas.Int.{ints}
-use Rattle.slack_rows.specs.Slack.{Free, Ticks, Way, NoNumber, Launches, Told, is_broken, before_at, after_at, before_by, after_by, before_window, after_window, are_inside, if_inside, is_open, two_launches, last_before, first_after}
+use Rattle.slack_rows.specs.Slack.{Launches, is_broken, before_at, after_at, before_by, after_by, before_window, after_window, are_inside, if_inside, is_open, two_launches, last_before, first_after}
 use Rattle.critical_paths.specs.Event.{Events, is_first, is_last}
-use Rattle.critical_paths.specs.Region.{Region, first_from, last_up_to, region_from, region_to, regions_from, IsCyclic}
-use Rattle.slack_rows.specs.Window.{Window, Side, Late, Early, Either, begins_before, ends_after, is_before, is_after, meets, is_late, is_early, side_of, counts_before, counts_after, met}
+use Rattle.critical_paths.specs.Region.{Region, region_from, region_to, IsCyclic}
+use Rattle.slack_rows.specs.Window.{Window, Side, Late, Early, Either, is_before, is_after, meets, is_late, is_early, side_of, counts_before, counts_after, met}
 use Rattle.slack_rows.specs.Laws.{IsPlaced, IsTouched}
-use Rattle.critical_paths.proofs.Searches.{IsFirst, IsLast, first_is, first_up_to, last_is, last_from}
+use Rattle.critical_paths.proofs.Searches.{first_is, first_up_to, last_is, last_from}
 use Rattle.critical_paths.proofs.Runs.{not_true, not_false, IsAround, around, region_from_is, region_to_is, first_tick, last_tick, region_from_each, region_to_each, region_to_ordered, region_from_ordered}
 
 -- ---- numbers

@@ -1,6 +1,6 @@
 -- What launches say of what the program holds against something: of a pin against the steps of another one.
-use Rattle.std.specs.Prelude.{◌≡◌, ℕ, zero, suc, ◌+◌, ◌*◌, ◌<◌, ◌≤◌, ◌^◌, not, ◌&&◌, ◌||◌, ℤ, pos, ◌+ℤ◌, ◌-ℤ◌, ◌≤ℤ◌, int_lt, Bool, true, false, List, [], ◌∷◌, ◌++◌, filter, length, map, if◌then◌else◌, Option, Some, None}
-use Rattle.std.specs.List.{All, AllByRecursion, list_any}
+use Rattle.std.specs.Prelude.{◌≡◌, ℕ, zero, suc, ◌+◌, ◌*◌, ◌<◌, ◌≤◌, ◌^◌, not, ◌&&◌, ◌||◌, ℤ, pos, ◌+ℤ◌, ◌-ℤ◌, ◌≤ℤ◌, int_lt, Bool, true, false, List, [], ◌∷◌, ◌++◌, filter, length, map, if◌then◌else◌, IfSome, Option, Some, None}
+use Rattle.std.specs.List.{All, list_any}
 use Rattle.std.specs.Option.{option_or}
 use Rattle.scald_base.specs.Clock.{back}
 use Rattle.scald_base.specs.Time.{period}
@@ -15,19 +15,19 @@ use Rattle.critical_paths.specs.declared.region.Region.{Region as Ticked}
 use Rattle.critical_paths.specs.declared.region.Slots.{Slots}
 use Rattle.critical_paths.specs.declared.path.Node.{Node}
 use Rattle.critical_paths.specs.declared.event.Stop.{Stop}
-use Rattle.critical_paths.specs.Tick.{IsWithin, most_tick}
+use Rattle.critical_paths.specs.Tick.{IsWithin, is_further}
 use Rattle.critical_paths.specs.Event.{Events, events, moves}
 use Rattle.critical_paths.specs.Region.{IsCyclic, Region, all_events, regions}
 use Rattle.critical_paths.specs.declared.path.At.{At}
-use Rattle.critical_paths.specs.Told.{Grows, IsShortPath, Knows}
+use Rattle.critical_paths.specs.Known.{Grows, IsShortPath, Knows}
 use Rattle.critical_paths.specs.Views.{IsPin, later_by, ticks_of_region}
 use Rattle.critical_paths.specs.Walk.{pin_path_of}
 use Rattle.critical_paths.specs.Launch.{Edge, ago, edge_of_pin}
 use Rattle.critical_paths.specs.Arrival.{arrivals_of}
 use Rattle.slack_rows.specs.declared.around.Around.{Around}
 use Rattle.slack_rows.specs.declared.around.Side.{Side as Counted}
-use Rattle.slack_rows.specs.declared.around.Side.TheVariants.{Before as LiesBefore, Late as CountsLate, Early as CountsEarly, Either as CountsEither, Two as CountsTwo, After as LiesAfter}
-use Rattle.slack_rows.specs.declared.sides.Held.{Held}
+use Rattle.slack_rows.specs.declared.around.Side.TheVariants.{Before as LiesBefore, Late as CountsLate, Early as CountsEarly, After as LiesAfter}
+use Rattle.slack_rows.specs.declared.held.Held.{Held}
 use Rattle.critical_paths.specs.declared.arrival.Arrival.{Arrival as Arrived}
 use Rattle.critical_paths.specs.declared.event.PinEvent.{PinEvent}
 use Rattle.slack_rows.specs.declared.slack.By.TheVariants.{Way as ByWay}
@@ -45,9 +45,11 @@ use Rattle.step_values.specs.Steps.{has}
 use Rattle.step_values.specs.declared.value.Value.{Value}
 use Rattle.flat_circuit.specs.declared.instance.Instance.{Instance}
 use Rattle.point_check.specs.Window.{Folds}
-use Rattle.slack_rows.specs.Laws.{IsPlaced}
 use Rattle.slack_rows.specs.Launched.{are_two, side_by, two_by}
-use Rattle.slack_rows.specs.Views.{Tells, ahead_of, counts_first, counts_last, is_starred, is_two, meets_window, region_in, slack_told, window_about, window_in}
+use Rattle.slack_rows.specs.declared.parameter.Subject.{Subject}
+use Rattle.slack_rows.specs.declared.parameter.Subject.TheVariants.{Instance as OfInstance, Net as OfNet}
+use Rattle.slack_rows.specs.declared.parameter.Word.{Word as Limit}
+use Rattle.slack_rows.specs.Views.{Tells, corner_of, is_of_width, counts_first, counts_last, is_starred, is_two, meets_window, region_in, slack_told, window_about, window_in}
 
 -- the ideal edge that a step comes from which the pin shows at a tick
 abbrev pub edge_at_pin : Circuit → Waves → Corner → Pin → Direction → ℕ → Option Edge
@@ -350,3 +352,41 @@ step_held held w EarlyCorner =
 abbrev pub told_by_arrival : Held → Number → Ticks → Arrived → Found
 told_by_arrival held slack w found =
     record { slack = slack; window = w; pin = held.place; direction = Change; tick = found.tick; by = ByWay found.node }
+
+-- ---- two arrivals
+
+-- of two arrivals the one that is further, and of equal ones the first
+abbrev pub further_of : Corner → Option Arrived → Arrived → Option Arrived
+further_of corner None new = Some new
+further_of corner (Some old) new = if is_further corner new.tick old.tick then Some new else Some old
+
+abbrev pub both_of : Option Held → Option Ticked → Option (Held × Ticked)
+both_of None region = None
+both_of (Some held) None = None
+both_of (Some held) (Some region) = Some (held, region)
+
+-- ---- at which ticks the paths of a slack show
+
+-- the tick of the edge that data is held against
+abbrev pub edge_tick : Corner → Ticks → ℤ
+edge_tick LateCorner w = w.first
+edge_tick EarlyCorner w = w.last
+
+abbrev pub ShowsAt : ℤ → Option At → Type 0
+ShowsAt tick None = Unit {0}
+ShowsAt tick (Some at) = at.tick +ℤ pos at.wire ≡ tick
+
+-- Of an instance: the data at its change and the clock at its edge, or the begin and the end of a pulse. A net has no
+-- clock.
+abbrev pub data_tick : Bool → Found → ℤ
+data_tick true found = found.window.first
+data_tick false found = found.tick
+
+abbrev pub clock_tick : Bool → Corner → Found → ℤ
+clock_tick true corner found = found.window.last
+clock_tick false corner found = edge_tick corner found.window
+
+abbrev pub ShowAt : Subject → Limit → Found → Option At → Option At → Type 0
+ShowAt (OfInstance number) word found changes clock =
+    (ShowsAt (data_tick (is_of_width word) found) changes) × (ShowsAt (clock_tick (is_of_width word) (corner_of word) found) clock)
+ShowAt (OfNet number) word found changes clock = (IfSome changes (λ at. at.tick ≡ found.tick)) × (clock ≡ None)

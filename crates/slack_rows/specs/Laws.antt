@@ -1,5 +1,5 @@
 -- Laws of slacks: a limit is broken exactly where there is a fault.
-use Rattle.std.specs.Prelude.{◌≡◌, ◌⊎◌, ◌↔◌, ℕ, ◌+◌, ◌-◌, ◌*◌, ◌<◌, ◌≤◌, Bool, true, false, List, [], ◌∷◌, length, slice_get, ℤ, pos, ◌≤ℤ◌, is_some, Option, Some, None}
+use Rattle.std.specs.Prelude.{◌≡◌, ◌⊎◌, ◌↔◌, ℕ, ◌*◌, ◌<◌, ◌≤◌, Bool, true, false, List, [], ◌∷◌, length, slice_get, is_some, Some}
 use Rattle.std.specs.List.{AllByRecursion}
 use Rattle.scald_base.specs.Time.{IsHeader, period}
 use Rattle.element_kinds.specs.Kinds.{checks_points, checks_pulses, may_be_marked}
@@ -11,12 +11,12 @@ use Rattle.point_check.specs.Faults.{instance_fault, net_fault}
 use Rattle.pulse_check.specs.Faults.{limited_fault as width_fault}
 use Rattle.critical_paths.specs.Event.{Events}
 use Rattle.critical_paths.specs.Region.{IsCyclic}
-use Rattle.slack_rows.specs.Slack.{Slack, Free, Ticks, Way, NoNumber, Launches, Watch, Told, is_broken, told_before, told_after}
+use Rattle.slack_rows.specs.Slack.{Launches, Watch, Told, is_broken, told_before, told_after}
 use Rattle.slack_rows.specs.declared.parameter.Word.{Word as Limit}
 use Rattle.slack_rows.specs.declared.parameter.Word.TheVariants.{Setup, Hold, High, Low, Gate, Before as GateBefore, After as GateAfter, Assert, From as StableFrom, To as StableTo}
 use Rattle.slack_rows.specs.declared.parameter.Subject.{Subject}
 use Rattle.slack_rows.specs.declared.parameter.Subject.TheVariants.{Instance as OfInstance, Net as OfNet}
-use Rattle.slack_rows.specs.Limit.{told_in, least_told}
+use Rattle.slack_rows.specs.Limit.{told_in}
 use Rattle.slack_rows.specs.Window.{Window}
 
 -- the window lies so that what is before it and after it has ticks, and some tick is in it

@@ -1,7 +1,6 @@
 -- The slack of a limit: the least over the pins and directions that it is about, and over all cases.
-use Rattle.std.specs.Prelude.{ℕ, ◌+◌, ◌-◌, ◌==◌, Bool, true, false, not, ◌&&◌, ◌||◌, List, [], ◌∷◌, ◌++◌, length, map, filter, filter_map, slice_get, ℤ, pos, ◌+ℤ◌, ◌-ℤ◌, int_lt, int_le, if◌then◌else◌, is_some, is_none, Option, Some, None}
-use Rattle.std.specs.List.{flat_map, list_any, range_with_len}
-use Rattle.std.specs.Option.{option_map}
+use Rattle.std.specs.Prelude.{ℕ, ◌+◌, ◌-◌, ◌==◌, Bool, true, false, not, ◌&&◌, ◌||◌, List, [], ◌∷◌, ◌++◌, length, map, filter, slice_get, pos, if◌then◌else◌, Option, Some, None}
+use Rattle.std.specs.List.{list_any, range_with_len}
 use Rattle.scald_base.specs.Time.{period}
 use Rattle.vector_names.specs.declared.bits.Target.{Target}
 use Rattle.vector_names.specs.declared.bits.Target.TheVariants.{Net as OnNet, Constant}
@@ -25,15 +24,15 @@ use Rattle.point_check.specs.Assertion.{first_excess, is_held}
 use Rattle.point_check.specs.Window.{Folds}
 use Rattle.critical_paths.specs.declared.direction.Direction.{Direction}
 use Rattle.critical_paths.specs.declared.direction.Direction.TheVariants.{Rise, Fall, Change}
-use Rattle.critical_paths.specs.Event.{Events, events, moves}
+use Rattle.critical_paths.specs.Event.{Events, events}
 use Rattle.critical_paths.specs.Region.{Region, all_events, first_from, some_event}
-use Rattle.slack_rows.specs.Slack.{Slack, Free, Ticks, Way, NoNumber, Launches, Told, Watch, AtLevel, is_less, is_met, least, no_launches, told_after, told_alone, told_at, told_before, told_of, two_in}
+use Rattle.slack_rows.specs.Slack.{Slack, Free, Ticks, NoNumber, Told, Watch, AtLevel, is_less, is_met, least, no_launches, told_after, told_alone, told_at, told_before, told_of, two_in}
 use Rattle.slack_rows.specs.declared.parameter.Word.{Word as Limit}
 use Rattle.slack_rows.specs.declared.parameter.Word.TheVariants.{Setup, Hold, High, Low, Gate, Before as GateBefore, After as GateAfter, Assert, From as StableFrom, To as StableTo}
 use Rattle.slack_rows.specs.declared.parameter.Subject.{Subject}
 use Rattle.slack_rows.specs.declared.parameter.Subject.TheVariants.{Instance as OfInstance, Net as OfNet}
 use Rattle.slack_rows.specs.Window.{Window, ahead}
-use Rattle.slack_rows.specs.Watch.{directions_of, forbids, gate_watch, net_watch, permitted, rise_watch, span_watch}
+use Rattle.slack_rows.specs.Watch.{directions_of, gate_watch, net_watch, permitted, rise_watch, span_watch}
 use Rattle.slack_rows.specs.Pulse.{left_at, narrowest, told_wave}
 use Rattle.slack_rows.specs.Launched.{checker_launches, gate_launches, opening, two_at_ends}
 
@@ -74,18 +73,18 @@ abbrev pub spans_of : Circuit → Waves → Instance → Watch
 spans_of c ws j = span_watch (period c.header) (edge_limits j.limits) (pin_folds c ws j 0) (pin_folds c ws j 1)
 
 -- A checker that asks for nothing about a rise has no window there.
-abbrev pub told_edge : (ℕ → Events → ℕ → Option ℕ) → Circuit → Waves → Instance → Told
-told_edge still c ws j =
+abbrev pub edge_pair : (ℕ → Events → ℕ → Option ℕ) → Circuit → Waves → Instance → Told
+edge_pair still c ws j =
     least_still (still (period c.header) (events Change (pin_folds c ws j 1)))
     (period c.header) (events Rise (pin_folds c ws j 0))
 
 abbrev pub told_rise : Circuit → Waves → Instance → Limit → Told
 told_rise c ws j Setup =
-    if has_no_window (edge_limits j.limits) then told_edge still_before c ws j
+    if has_no_window (edge_limits j.limits) then edge_pair still_before c ws j
     else told_before (period c.header)
     (checker_launches c ws j Rise (rises_of c ws j).windows) (rises_of c ws j)
 told_rise c ws j Hold =
-    if has_no_window (edge_limits j.limits) then told_edge still_after c ws j
+    if has_no_window (edge_limits j.limits) then edge_pair still_after c ws j
     else told_after (period c.header)
     (checker_launches c ws j Rise (rises_of c ws j).windows) (rises_of c ws j)
 told_rise c ws j limit = told_alone Free

@@ -13,7 +13,7 @@ use Rattle.fixpoint_engine.specs.Waves.{marked_pin}
 use Rattle.point_check.specs.Assertion.{is_held}
 use Rattle.critical_paths.specs.Event.{same_direction}
 use Rattle.critical_paths.specs.Region.{Region}
-use Rattle.slack_rows.specs.Slack.{Slack, Free, Ticks, Way, NoNumber, Place, Told, Nowhere, At, Arrived, InPulse, AtLevel, is_above, is_broken, is_free}
+use Rattle.slack_rows.specs.Slack.{Slack, NoNumber, Place, Told, At, is_above, is_broken, is_free}
 use Rattle.slack_rows.specs.declared.parameter.Word.{Word as Limit}
 use Rattle.slack_rows.specs.declared.parameter.Word.TheVariants.{Setup, Hold, High, Low, Gate, Before as GateBefore, After as GateAfter, Assert, From as StableFrom, To as StableTo}
 use Rattle.slack_rows.specs.declared.parameter.Parameter.{Parameter}

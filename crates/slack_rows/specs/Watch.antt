@@ -1,14 +1,11 @@
 -- Watches: what each checker, mark and assertion watches, and the windows in which it is not to change.
-use Rattle.std.specs.Prelude.{ℕ, ◌+◌, ◌-◌, ◌==◌, Bool, true, false, not, ◌&&◌, ◌||◌, List, [], ◌∷◌, map, filter_map, if◌then◌else◌, is_none, Option, Some, None}
+use Rattle.std.specs.Prelude.{ℕ, ◌+◌, ◌-◌, ◌==◌, Bool, true, false, not, ◌&&◌, List, [], ◌∷◌, map, filter_map, if◌then◌else◌, is_none, Option, Some, None}
 use Rattle.std.specs.List.{range_with_len}
 use Rattle.std.specs.Option.{option_map}
 use Rattle.scald_base.specs.declared.assertion.AssertSpec.{AssertSpec}
 use Rattle.scald_base.specs.declared.assertion.AssertSpec.TheVariants.{None as Unasserted, Precision, Clock, Stable}
 use Rattle.scald_base.specs.Time.{Header, period}
-use Rattle.step_values.specs.declared.value.Value.{Value}
 use Rattle.step_values.specs.Steps.{has}
-use Rattle.step_values.specs.Cell.{values}
-use Rattle.skew_algebra.specs.Wave.{Wave, fold}
 use Rattle.element_kinds.specs.declared.kind.Kind.{Kind}
 use Rattle.pin_waves.specs.Interface.{wide_wave}
 use Rattle.gate_eval.specs.Hold.{is_closed}
@@ -19,7 +16,7 @@ use Rattle.critical_paths.specs.declared.direction.Direction.{Direction}
 use Rattle.critical_paths.specs.declared.direction.Direction.TheVariants.{Rise, Fall, Change}
 use Rattle.critical_paths.specs.Event.{Events, events, moves}
 use Rattle.critical_paths.specs.Region.{Region, all_events, regions, some_event}
-use Rattle.slack_rows.specs.Window.{Window, about}
+use Rattle.slack_rows.specs.Window.{about}
 use Rattle.slack_rows.specs.Slack.{Watch}
 
 -- ---- about the rise of a clock

@@ -1,6 +1,6 @@
 //! What the regions of changes about a window come to.
 
-ghost use Rattle.std.specs.Prelude.{◌≡◌, ◌<◌, ◌+◌, ◌^◌, true, None, Some, if◌then◌else◌};
+ghost use Rattle.std.specs.Prelude.{◌≡◌, ◌<◌, ◌+◌, ◌^◌, true, Some, if◌then◌else◌};
 ghost use Rattle.std.specs.Option.{option_or};
 ghost use Rattle.slack_rows.specs.Launched.{are_two, side_by as side_by_launches};
 ghost use Rattle.slack_rows.specs.Views.{counts_first, counts_last, is_two, meets_window, side_in};

@@ -1,18 +1,20 @@
 //! The paths that a slack comes from.
 
-ghost use Rattle.std.specs.Prelude.{◌≡◌, ℕ, ◌^◌, IfSome, OnOk, slice_get};
+ghost use Rattle.std.specs.Prelude.{◌≡◌, ℕ, ◌^◌, IfOk, IfSome, None, OnOk, slice_get};
 ghost use Rattle.std.specs.List.{All};
 ghost use Rattle.fixpoint_engine.specs.Waves.{waves_of};
 ghost use Rattle.critical_paths.specs.Tick.{IsWithin};
-ghost use Rattle.critical_paths.specs.Told.{Knows};
+ghost use Rattle.critical_paths.specs.Known.{Knows};
 ghost use Rattle.critical_paths.specs.Views.{IsPin, Sees};
-ghost use Rattle.slack_rows.specs.Held.{GoesOn, IsHeld};
+ghost use Rattle.slack_rows.specs.Held.{GoesOn, IsHeld, ShowAt, ShowsAt, clock_tick, data_tick, edge_tick};
+ghost use Rattle.slack_rows.specs.Views.{corner_of, is_of_width};
 
+use crate::checker::held_by;
+use crate::gate::held_beside;
+use crate::held::Held;
 use crate::limits::marked_pin;
 use crate::parameter::{Parameter, Subject};
-use crate::sides::Held;
 use crate::slack::{By, Told};
-use crate::watch::{held_beside, held_by};
 use critical_paths::{At, Corner, Event, Paths, PinEvent, Reading, View};
 use fixpoint_engine::wire_behind;
 use flat_circuit::Instance;
@@ -57,8 +59,10 @@ fn pulse_paths<W: CyclicWave<Item = Value>>(
     requires pins { All (IsPin view.now.circuit.now) checker.now.pins }
     requires first { IsWithin (2 ^ 44) told.window.first }
     requires last { IsWithin (2 ^ 44) told.window.last }
-    ensures { OnOk result (GoesOn view.now.circuit.now (waves_of view.now.waves.now)
+    ensures paths { OnOk result (GoesOn view.now.circuit.now (waves_of view.now.waves.now)
         paths.old.nodes paths.new.nodes paths.new.met.entries) }
+    ensures begin { IfOk result (λ found. ShowsAt told.window.first found.«data») }
+    ensures end { IfOk result (λ found. ShowsAt told.window.last found.clock) }
 {
     let Some(pin) = checker.pins.as_slice().get(0) else {
         return Ok(Causes::NONE);
@@ -109,8 +113,9 @@ fn data_path<W: CyclicWave<Item = Value>>(
         paths.old.met.entries }
     requires held { IsHeld view.now.circuit.now held }
     requires tick { IsWithin (2 ^ 44) told.tick }
-    ensures { OnOk result (GoesOn view.now.circuit.now (waves_of view.now.waves.now)
+    ensures paths { OnOk result (GoesOn view.now.circuit.now (waves_of view.now.waves.now)
         paths.old.nodes paths.new.nodes paths.new.met.entries) }
+    ensures tick { IfOk result (ShowsAt told.tick) }
 {
     if let By::Way(node) = told.by {
         let bounds = wire_behind(view.circuit, held.pin.target);
@@ -143,8 +148,10 @@ fn held_paths<W: CyclicWave<Item = Value>>(
     requires first { IsWithin (2 ^ 44) told.window.first }
     requires last { IsWithin (2 ^ 44) told.window.last }
     requires tick { IsWithin (2 ^ 44) told.tick }
-    ensures { OnOk result (GoesOn view.now.circuit.now (waves_of view.now.waves.now)
+    ensures paths { OnOk result (GoesOn view.now.circuit.now (waves_of view.now.waves.now)
         paths.old.nodes paths.new.nodes paths.new.met.entries) }
+    ensures change { IfOk result (λ found. ShowsAt told.tick found.«data») }
+    ensures edge { IfOk result (λ found. ShowsAt (edge_tick corner told.window) found.clock) }
 {
     let Some(held) = held_of(instance, told.pin) else {
         return Ok(Causes::NONE);
@@ -165,8 +172,10 @@ fn net_paths<W: CyclicWave<Item = Value>>(
     requires sees { Sees view.now.circuit.now view.now.waves.now view.now.hazards.now }
     requires knows { Knows view.now.circuit.now (waves_of view.now.waves.now) paths.old.nodes
         paths.old.met.entries }
-    ensures { OnOk result (GoesOn view.now.circuit.now (waves_of view.now.waves.now)
+    ensures paths { OnOk result (GoesOn view.now.circuit.now (waves_of view.now.waves.now)
         paths.old.nodes paths.new.nodes paths.new.met.entries) }
+    ensures change { IfOk result (λ found. IfSome found.«data» (λ at. at.tick ≡ told.tick)) }
+    ensures none { IfOk result (λ found. found.clock ≡ None) }
 {
     let Some(_) = view.circuit.net(net) else {
         return Ok(Causes::NONE);
@@ -199,8 +208,12 @@ fn instance_paths<W: CyclicWave<Item = Value>>(
     requires first { IsWithin (2 ^ 44) told.window.first }
     requires last { IsWithin (2 ^ 44) told.window.last }
     requires tick { IsWithin (2 ^ 44) told.tick }
-    ensures { OnOk result (GoesOn view.now.circuit.now (waves_of view.now.waves.now)
+    ensures paths { OnOk result (GoesOn view.now.circuit.now (waves_of view.now.waves.now)
         paths.old.nodes paths.new.nodes paths.new.met.entries) }
+    ensures change { IfOk result (λ found.
+        ShowsAt (data_tick (is_of_width parameter.word) told) found.«data») }
+    ensures edge { IfOk result (λ found. ShowsAt (clock_tick (is_of_width parameter.word)
+        (corner_of parameter.word) told) found.clock) }
 {
     let Some(instance) = view.circuit.instance(number) else {
         return Ok(Causes::NONE);
@@ -223,6 +236,8 @@ pub fn causes_of<W: CyclicWave<Item = Value>>(
         paths.old.met.entries }
     ensures paths { OnOk result (GoesOn view.now.circuit.now (waves_of view.now.waves.now)
         paths.old.nodes paths.new.nodes paths.new.met.entries) }
+    ensures ticks { IfOk result (λ found.
+        ShowAt parameter.subject parameter.word told found.«data» found.clock) }
 {
     if matches!(told.by, By::Nothing | By::Quiet | By::Repeated) {
         return Ok(Causes::NONE);

@@ -17,12 +17,20 @@ mod window;
 
 // slacks about windows
 mod around;
+mod held;
+mod launch;
+mod sides;
+mod two;
+
+// slacks without a region
 mod guard;
 mod quiet;
-mod sides;
 mod ways;
 
 // of each kind of limit
+mod assertion;
+mod checker;
+mod gate;
 mod watch;
 mod width;
 

@@ -1,6 +1,6 @@
 //! Which limits a circuit has.
 
-ghost use Rattle.std.specs.Prelude.{◌≡◌, ◌<◌, ◌++◌, IfOk, OnOk, Some, length, map, slice_get};
+ghost use Rattle.std.specs.Prelude.{◌≡◌, ◌++◌, IfOk, OnOk, Some, length, map};
 ghost use Rattle.std.specs.List.{list_any, range_with_len};
 ghost use Rattle.fixpoint_engine.specs.Waves.{marked_pin as marked_in};
 ghost use Rattle.point_check.specs.Assertion.{is_held as held};

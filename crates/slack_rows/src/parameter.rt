@@ -6,7 +6,7 @@ ghost use Rattle.slack_rows.specs.Views.{corner_of, is_of_width};
 use critical_paths::Corner;
 
 /// What has limits.
-#[derive(Clone, Copy, PartialEq, Eq, Hash)]
+#[derive(Clone, Copy, PartialEq, Eq)]
 pub enum Subject {
     /// A checker or a marked instance, by its number.
     Instance(u32),
@@ -15,7 +15,7 @@ pub enum Subject {
 }
 
 /// Which limit it is.
-#[derive(Clone, Copy, PartialEq, Eq, Hash)]
+#[derive(Clone, Copy)]
 pub enum Word {
     Setup,
     Hold,
@@ -56,7 +56,7 @@ impl Word {
 }
 
 /// A limit, in ticks where it has a number.
-#[derive(Clone, Copy, PartialEq, Eq, Hash)]
+#[derive(Clone, Copy)]
 pub struct Parameter {
     pub subject: Subject,
     pub word: Word,

@@ -18,7 +18,8 @@ use wave_core::{Cell, CyclicWave};
 fn quiet_before<W: CyclicWave<Item = Value>>(input: &W, slot: u16) -> Option<u16>
     requires { slot < length (W.cells input.now) }
     ensures { result
-        ≡ still_before (length (W.cells input.now)) (events Change (read (W.cells input.now))) slot }
+        ≡ still_before (length (W.cells input.now)) (events Change (read (W.cells input.now)))
+        slot }
 {
     let period = input.period();
     for back in 0..period {

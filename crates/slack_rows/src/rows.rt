@@ -1,8 +1,8 @@
 //! The least slack of each limit over more and more cases.
 
-ghost use Rattle.std.specs.Prelude.{◌≡◌, ◌+◌, ◌<◌, ◌++◌, ◌∷◌, [], IfOk, OnOk, List, None, length, replicate, reverse};
+ghost use Rattle.std.specs.Prelude.{◌≡◌, ◌+◌, ◌++◌, ◌∷◌, [], IfOk, OnOk, List, None, length, replicate, reverse};
 ghost use Rattle.fixpoint_engine.specs.Waves.{waves_of};
-ghost use Rattle.critical_paths.specs.Told.{Knows};
+ghost use Rattle.critical_paths.specs.Known.{Knows};
 ghost use Rattle.critical_paths.specs.Views.{Sees};
 ghost use Rattle.slack_rows.specs.Held.{GoesOn};
 ghost use Rattle.slack_rows.specs.Known.{AreKnown, IsFirst, IsLowered, IsSetWith, numbers_of, places_of};

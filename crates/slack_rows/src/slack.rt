@@ -9,7 +9,7 @@ use crate::window::Window;
 use critical_paths::{Direction, Region};
 
 /// Why there is no number.
-#[derive(Clone, Copy, PartialEq, Eq, Hash)]
+#[derive(Clone, Copy)]
 pub enum Reason {
     /// The data may change in every slot.
     Data,
@@ -28,7 +28,7 @@ pub enum Reason {
 }
 
 /// By how many ticks a limit is met, or why there is no number.
-#[derive(Clone, Copy, PartialEq, Eq, Hash)]
+#[derive(Clone, Copy)]
 pub enum Slack {
     NoNumber(Reason),
     /// Below 0 the limit is broken.
@@ -112,7 +112,7 @@ impl Slack {
 }
 
 /// What a slack is told by.
-#[derive(Clone, Copy, PartialEq, Eq)]
+#[derive(Clone, Copy)]
 pub enum By {
     /// The end of a region of changes.
     Region(Region),
@@ -131,7 +131,7 @@ pub enum By {
 }
 
 /// A slack, where it is least.
-#[derive(Clone, Copy, PartialEq, Eq)]
+#[derive(Clone, Copy)]
 pub struct Told {
     pub slack: Slack,
     pub window: Window,

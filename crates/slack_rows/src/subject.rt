@@ -4,17 +4,19 @@ ghost use Rattle.std.specs.Prelude.{◌≡◌, IfOk, OnOk, Some, false, true, le
 ghost use Rattle.scald_base.specs.Time.{period};
 ghost use Rattle.flat_circuit.specs.Instances.{InstanceFits};
 ghost use Rattle.fixpoint_engine.specs.Waves.{waves_of};
-ghost use Rattle.critical_paths.specs.Told.{Knows};
+ghost use Rattle.critical_paths.specs.Known.{Knows};
 ghost use Rattle.critical_paths.specs.Views.{Sees};
 ghost use Rattle.slack_rows.specs.Held.{GoesOn};
 ghost use Rattle.slack_rows.specs.Known.{SlacksKnown, TellLimits};
 ghost use Rattle.slack_rows.specs.Limit.{by_arrivals, instance_by_arrivals, told_in, told_instance};
 ghost use Rattle.slack_rows.specs.Rows.{limits_of, limits_of_instance};
 
+use crate::assertion::net_slacks;
+use crate::checker::checker_slacks;
+use crate::gate::gate_slacks;
 use crate::limits::{is_held, marked_pin};
 use crate::parameter::Subject;
 use crate::slack::Slacks;
-use crate::watch::{checker_slacks, gate_slacks, net_slacks};
 use crate::width::width_slacks;
 use critical_paths::{Paths, View};
 use element_kinds::Check;

@@ -1,7 +1,6 @@
 //! Which limits have a row of their own in the table, and how many nothing can break.
 
 ghost use Rattle.std.specs.Prelude.{◌≡◌, ◌<◌, ◌==◌, ◌&&◌, ℕ, not, true, int_le, is_some, List, Some, false, length, slice_get};
-ghost use Rattle.std.specs.List.{list_any};
 ghost use Rattle.flat_circuit.specs.Circuit.{Circuit};
 ghost use Rattle.slack_rows.specs.declared.parameter.Parameter.{Parameter};
 ghost use Rattle.slack_rows.specs.Known.{AreKnown, are_sure, breaks, free_by, in_one_case, is_sure, least_at, told_least};

@@ -5,15 +5,17 @@ ghost use Rattle.std.specs.List.{All};
 ghost use Rattle.scald_base.specs.Time.{period as period_of};
 ghost use Rattle.fixpoint_engine.specs.Waves.{waves_of};
 ghost use Rattle.critical_paths.specs.Tick.{IsWithin, most_tick};
-ghost use Rattle.critical_paths.specs.Told.{Knows};
+ghost use Rattle.critical_paths.specs.Known.{Knows};
 ghost use Rattle.critical_paths.specs.Views.{Sees};
 ghost use Rattle.slack_rows.specs.Held.{AreOfWays, GoesOn, IsHeld, IsInPeriod};
 ghost use Rattle.slack_rows.specs.Views.{is_starred, slack_by};
 
 use crate::guard::{Guard, Guards, moved_to};
-use crate::sides::{Held, Watch, at_pin, edge_of, find, told_at, window_of};
+use crate::held::{Held, Watch};
+use crate::sides::window_of;
 use crate::slack::{Reason, Slack, Slacks, Told, lesser};
-use crate::window::Window;
+use crate::two::{at_pin, edge_of, find};
+use crate::window::{Window, spare_at};
 use critical_paths::{Arrival, Corner, Direction, Paths, View};
 use scald_base::NoMemory;
 use step_values::Value;
@@ -94,7 +96,7 @@ fn way(period: u16, held: Held, edge: Guard, arrival: Arrival, corner: Corner) -
 {
     let later = moved_to(period, edge.ideal, arrival.ideal, corner);
     let tick = arrival.tick - later;
-    let ticks = told_at(corner, edge.window, tick);
+    let ticks = spare_at(corner, edge.window, tick);
     held.told(Slack::Way(ticks), edge.window, Arrival { tick, ..arrival })
 }
 

@@ -1,6 +1,6 @@
 //! Slacks of the widths of pulses.
 
-ghost use Rattle.std.specs.Prelude.{◌≡◌, ◌<◌, ◌≤◌, ◌^◌, pos, ◌+ℤ◌, ◌-ℤ◌, ◌==◌, ◌&&◌, nat_lt, IfOk, IfSome, Some, true, false, length, slice_get};
+ghost use Rattle.std.specs.Prelude.{◌≡◌, ◌<◌, ◌^◌, pos, ◌+ℤ◌, ◌-ℤ◌, ◌==◌, ◌&&◌, nat_lt, IfOk, IfSome, Some, true, false, length, slice_get};
 ghost use Rattle.std.specs.Option.{option_map};
 ghost use Rattle.scald_base.specs.Signal.{turned};
 ghost use Rattle.scald_base.specs.Time.{period};
@@ -96,6 +96,8 @@ fn ticks(begin: i64, width: i64) -> Window
     requires width { IsWithin (2 ^ 32) width }
     ensures first { result.first ≡ begin }
     ensures last { result.last ≡ begin +ℤ width }
+    ensures from { result.from ≡ begin +ℤ pos 1 }
+    ensures to { result.to ≡ begin +ℤ width }
 {
     let end = begin + width;
     Window {
@@ -237,6 +239,8 @@ fn after_wire(left: Option<(i64, i64)>, wire: u16) -> Option<(i64, i64)>
     ensures near { IfSome result (λ found. IsWithin (2 ^ 21) found.0) }
     ensures few { IfSome result (λ found. IsWithin (2 ^ 20) found.1) }
     ensures left { option_map (λ found. found.1) result ≡ option_map (λ found. found.1) left }
+    ensures begin { option_map (λ found. found.0) result
+        ≡ option_map (λ found. found.0 +ℤ pos wire) left }
 {
     match left {
         None => None,
@@ -288,7 +292,8 @@ fn width<W: CyclicWave<Item = Value>>(
     ensures { let c = view.now.circuit.now in let ws = waves_of view.now.waves.now in
         let wave = read (wave_shown c ws pin).cells in
         IfOk result (λ found. Tells (period c.header) found (told_of 0 (begin_of level)
-        (told_wave limit (left_at c ws level pin) wave (narrowest_of (period c.header) level wave)))) }
+        (told_wave limit (left_at c ws level pin) wave
+        (narrowest_of (period c.header) level wave)))) }
 {
     let wave = pin_wave(view.alloc, view.circuit, view.waves, pin)?;
     let shown = wave.wave();

@@ -10,9 +10,9 @@ ghost use Rattle.critical_paths.specs.Event.{events};
 ghost use Rattle.critical_paths.specs.Region.{some_event};
 ghost use Rattle.critical_paths.specs.Views.{ticks_of_region};
 ghost use Rattle.slack_rows.specs.Watch.{fall_of, follows as follows_before, may_stay_high, span_told, spans};
-ghost use Rattle.slack_rows.specs.Views.{window_about};
+ghost use Rattle.slack_rows.specs.Views.{spare_at, window_about};
 
-use critical_paths::{Region, Regions};
+use critical_paths::{Corner, Region, Regions};
 use point_check::{first_low, last_fall};
 use scald_base::NoMemory;
 use std::alloc::Global;
@@ -20,7 +20,7 @@ use step_values::Value;
 use wave_core::{CyclicWave, first_where};
 
 /// A window, and the edge that it is about: its first and its last tick.
-#[derive(Clone, Copy, PartialEq, Eq)]
+#[derive(Clone, Copy)]
 pub struct Window {
     pub first: i64,
     pub last: i64,
@@ -44,6 +44,19 @@ impl Window {
             from: edge.first - i64::from(limits.0) + 1,
             to: edge.last + i64::from(limits.1),
         }
+    }
+}
+
+/// How many ticks lie between a tick and a window, before it or after it.
+pub fn spare_at(corner: Corner, window: Window, tick: i64) -> i64
+    requires from { IsWithin most_tick window.from }
+    requires to { IsWithin most_tick window.to }
+    requires tick { IsWithin most_tick tick }
+    ensures { result ≡ spare_at corner window tick }
+{
+    match corner {
+        Corner::Late => window.from - 1 - tick,
+        Corner::Early => tick - window.to - 1,
     }
 }
 

@@ -1,6 +1,6 @@
 use Rattle.std.proofs.Common.{◌+◌, ◌++◌, List, Some, drop, ap, ◌∙◌}
 use Rattle.critical_paths.specs.declared.common.Counted.{Counted}
-use Rattle.critical_paths.specs.Told.{end_of}
+use Rattle.critical_paths.specs.Known.{end_of}
 use Rattle.critical_paths.proofs.Counting.{parts_done, parts_from, parts_more, parts_told}
 use Rattle.critical_paths.proofs.common.parts.Goals as goal
 

@@ -1,5 +1,5 @@
 use Rattle.std.proofs.Common.{◌≡◌, ◌++◌, drop}
-use Rattle.critical_paths.specs.Told.{end_of}
+use Rattle.critical_paths.specs.Known.{end_of}
 use Rattle.critical_paths.proofs.Counting.{parts_from}
 use Rattle.critical_paths.proofs.common.parts.Given as goal
 

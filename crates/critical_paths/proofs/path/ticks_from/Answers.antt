@@ -2,7 +2,7 @@ use Rattle.std.proofs.Common.{◌≡◌, ◌+◌, ◌-◌, ◌*◌, drop, sym, s
 use Rattle.std.proofs.lemmas.Int.{ints}
 use Rattle.critical_paths.specs.declared.event.Stop.{Stop}
 use Rattle.critical_paths.specs.declared.path.Passage.{Passage}
-use Rattle.critical_paths.specs.Told.{IsNear, ticks_along}
+use Rattle.critical_paths.specs.Known.{IsNear, ticks_along}
 use Rattle.critical_paths.proofs.Turning.{near_more, ticks_more}
 use Rattle.critical_paths.proofs.path.ticks_from.Goals as goal
 use Rattle.critical_paths.proofs.path.ticks_from.Goals.{in-Some, in_default}

@@ -1,5 +1,5 @@
 use Rattle.std.proofs.Common.{◌≡◌, ◌-◌, ◌*◌, drop, ◌+ℤ◌}
-use Rattle.critical_paths.specs.Told.{IsNear, ticks_along}
+use Rattle.critical_paths.specs.Known.{IsNear, ticks_along}
 use Rattle.critical_paths.proofs.path.ticks_from.Given as goal
 
 abbrev pub invariant-loop-place : goal.invariant-loop-place

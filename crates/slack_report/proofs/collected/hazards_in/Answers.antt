@@ -1,4 +1,4 @@
-use Rattle.std.proofs.Common.{◌≡◌, ◌∙◌, ℕ, Bool, false, List, length, replicate, sym, ap, subst, arith}
+use Rattle.std.proofs.Common.{◌∙◌, ℕ, Bool, false, List, replicate, sym, ap, subst, arith}
 use Rattle.fixpoint_engine.specs.Waves.{waves_of}
 use Rattle.slack_report.specs.Hazards.{AreMarked}
 use Rattle.slack_report.proofs.Hazards.{all_marked, none_marked}

@@ -1,4 +1,4 @@
-use Rattle.std.proofs.Common.{◌<◌, arith}
+use Rattle.std.proofs.Common.{arith}
 use Rattle.fixpoint_engine.specs.Waves.{waves_of}
 use Rattle.slack_report.proofs.Hazards.{normal_more}
 use Rattle.slack_report.proofs.collected.known_waves.Goals as goal

@@ -1,4 +1,4 @@
-use Rattle.std.proofs.Common.{◌≡◌, ◌∙◌, ℕ, List, ◌++◌, ap}
+use Rattle.std.proofs.Common.{◌∙◌, ℕ, List, ◌++◌, ap}
 use Rattle.slack_report.specs.Answer.{first_line, last_lines}
 use Rattle.slack_report.proofs.Agreeing.{broken_with_faults}
 use Rattle.slack_report.proofs.collected.reply.Goals as goal

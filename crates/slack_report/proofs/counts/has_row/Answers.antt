@@ -1,4 +1,4 @@
-use Rattle.std.proofs.Common.{◌≡◌, ◌∙◌, ◌&&◌, not, Bool, ap, sym, arith, length}
+use Rattle.std.proofs.Common.{◌∙◌, ◌&&◌, not, Bool, ap, sym, arith}
 use Rattle.slack_report.proofs.Rowed.{lost, row_is}
 use Rattle.slack_report.proofs.counts.has_row.Goals as goal
 

@@ -1,4 +1,4 @@
-use Rattle.std.proofs.Common.{◌≡◌, List, length, sym, ap, ◌∙◌, arith, below_more}
+use Rattle.std.proofs.Common.{List, length, sym, ap, ◌∙◌, arith, below_more}
 use Rattle.flat_circuit.specs.declared.instance.Pin.{Pin}
 use Rattle.slack_rows.specs.Limit.{is_beside}
 use Rattle.slack_rows.proofs.Listed.{any_found, any_nowhere, beside_at, beside_not}

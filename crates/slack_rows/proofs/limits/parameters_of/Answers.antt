@@ -1,4 +1,4 @@
-use Rattle.std.proofs.Common.{◌≡◌, ℕ, [], sym, ap, ◌∙◌, arith, append-nil}
+use Rattle.std.proofs.Common.{ℕ, [], sym, ap, ◌∙◌, arith, append-nil}
 use Rattle.std.specs.Option.{option_copied}
 use Rattle.flat_circuit.proofs.Numbered.{order_long}
 use Rattle.slack_rows.specs.declared.parameter.Subject.TheVariants.{Net as OfNet}

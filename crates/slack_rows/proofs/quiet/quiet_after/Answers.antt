@@ -1,4 +1,4 @@
-use Rattle.std.proofs.Common.{◌≡◌, ℕ, length, not, sym, ap, ◌∙◌, arith, refl, below_more, slice_get, ◌+◌, ◌%◌}
+use Rattle.std.proofs.Common.{ℕ, length, not, sym, ap, ◌∙◌, arith, refl, below_more, slice_get, ◌+◌, ◌%◌}
 use Rattle.slack_rows.proofs.Quieted.{change_on, never_on, still_on}
 use Rattle.slack_rows.proofs.quiet.quiet_after.Goals as goal
 

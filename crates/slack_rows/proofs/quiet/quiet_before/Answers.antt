@@ -1,8 +1,4 @@
-use Rattle.std.proofs.Common.{◌≡◌, ℕ, length, not, sym, ap, subst, ◌∙◌, arith, refl, below_more, slice_get, ◌+◌, ◌-◌, ◌%◌}
-use Rattle.fixpoint_engine.specs.Pins.{read}
-use Rattle.critical_paths.specs.declared.direction.Direction.TheVariants.{Change}
-use Rattle.critical_paths.specs.Event.{events}
-use Rattle.slack_rows.specs.Limit.{still_before}
+use Rattle.std.proofs.Common.{ℕ, length, not, sym, ap, ◌∙◌, arith, refl, below_more, slice_get, ◌+◌, ◌-◌, ◌%◌}
 use Rattle.slack_rows.proofs.Quieted.{change_back, never_back, still_back}
 use Rattle.slack_rows.proofs.quiet.quiet_before.Goals as goal
 

@@ -1,4 +1,4 @@
-use Rattle.std.proofs.Common.{◌≡◌, ℕ, ◌+◌, ◌-◌, ◌*◌, ◌<◌, false, length}
+use Rattle.std.proofs.Common.{◌≡◌, ℕ, ◌-◌, ◌<◌, false, length}
 use Rattle.fixpoint_engine.specs.Pins.{read}
 use Rattle.critical_paths.specs.declared.direction.Direction.TheVariants.{Change}
 use Rattle.critical_paths.specs.Event.{events}

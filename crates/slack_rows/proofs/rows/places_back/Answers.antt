@@ -1,4 +1,4 @@
-use Rattle.std.proofs.Common.{◌≡◌, ℕ, ◌+◌, ◌-◌, ◌<◌, ◌≤◌, List, length, ap, sym, subst, ◌∙◌, arith, slice_index_or}
+use Rattle.std.proofs.Common.{◌≡◌, ℕ, ◌+◌, ◌-◌, length, ap, sym, subst, ◌∙◌, arith, slice_index_or}
 use Rattle.std.specs.Prelude.{Option, unwrap_or}
 use Rattle.slack_rows.proofs.Beginning.{Leads, leads_more, read_or}
 use Rattle.slack_rows.proofs.rows.places_back.Goals as goal

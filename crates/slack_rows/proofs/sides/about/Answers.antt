@@ -1,4 +1,4 @@
-use Rattle.std.proofs.Common.{◌≡◌, ◌≤◌, arith}
+use Rattle.std.proofs.Common.{arith}
 use Rattle.scald_base.specs.Time.{period}
 use Rattle.fixpoint_engine.specs.Waves.{waves_of}
 use Rattle.slack_rows.specs.Held.{place_in}

@@ -1,9 +1,9 @@
-use Rattle.std.proofs.Common.{◌≡◌, ◌≤◌, List, refl, sym, ap, subst, arith}
+use Rattle.std.proofs.Common.{List, refl, subst}
 use Rattle.std.proofs.lemmas.List.{take_all}
 use Rattle.scald_base.specs.Time.{period}
 use Rattle.fixpoint_engine.specs.Waves.{waves_of}
 use Rattle.critical_paths.specs.declared.region.Region.{Region}
-use Rattle.slack_rows.specs.Held.{IsInPeriod, TellWindows, launches_of, place_in, two_of, windows_about}
+use Rattle.slack_rows.specs.Held.{TellWindows, launches_of, place_in, two_of, windows_about}
 use Rattle.slack_rows.proofs.Gathering.{edge_at, level_more, placed_at, tell_edge, tell_none}
 use Rattle.slack_rows.proofs.Launching.{goes_none, goes_then}
 use Rattle.slack_rows.proofs.sides.about_all.Goals as goal

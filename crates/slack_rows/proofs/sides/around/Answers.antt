@@ -1,4 +1,4 @@
-use Rattle.std.proofs.Common.{◌≡◌, ◌+◌, ◌*◌, ◌≤◌, ℕ, ap, ◌∙◌, refl, subst, sym, arith}
+use Rattle.std.proofs.Common.{◌≡◌, ◌+◌, ◌*◌, ℕ, ◌∙◌, refl, subst, arith}
 use Rattle.scald_base.specs.Time.{period}
 use Rattle.fixpoint_engine.specs.Waves.{waves_of}
 use Rattle.slack_rows.specs.Views.{window_in}

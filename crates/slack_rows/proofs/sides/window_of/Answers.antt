@@ -1,4 +1,4 @@
-use Rattle.std.proofs.Common.{◌≡◌, ◌≤◌, sym, subst, arith}
+use Rattle.std.proofs.Common.{sym, subst, arith}
 use Rattle.slack_rows.specs.declared.window.Window.{Window}
 use Rattle.slack_rows.specs.Held.{IsCloseWindow}
 use Rattle.slack_rows.proofs.Gathering.{window_close}

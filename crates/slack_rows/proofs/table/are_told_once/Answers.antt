@@ -1,7 +1,7 @@
-use Rattle.std.proofs.Common.{◌≡◌, ◌∙◌, ◌&&◌, sym, Bool, true, false}
+use Rattle.std.proofs.Common.{◌∙◌, ◌&&◌, sym}
 use Rattle.slack_rows.specs.Rows.{are_one_region, have_no_number, is_same_pin}
 use Rattle.slack_rows.specs.Slack.{is_broken}
-use Rattle.slack_rows.specs.Views.{slack_by, told_by_found}
+use Rattle.slack_rows.specs.Views.{told_by_found}
 use Rattle.slack_rows.proofs.Merged.{chain_off, chain_on}
 use Rattle.slack_rows.proofs.table.are_told_once.Goals as goal
 

@@ -1,4 +1,4 @@
-use Rattle.std.proofs.Common.{◌≡◌, ◌∙◌, ◌&&◌, sym}
+use Rattle.std.proofs.Common.{◌∙◌, ◌&&◌, sym}
 use Rattle.slack_rows.specs.Rows.{are_one_region}
 use Rattle.slack_rows.specs.Views.{told_by_found}
 use Rattle.slack_rows.proofs.table.have_one_cause.Goals as goal

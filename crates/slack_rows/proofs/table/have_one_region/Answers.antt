@@ -1,4 +1,4 @@
-use Rattle.std.proofs.Common.{◌≡◌, ◌∙◌, sym}
+use Rattle.std.proofs.Common.{◌∙◌, sym}
 use Rattle.slack_rows.proofs.Merged.{one_or_not, out_of_order}
 use Rattle.slack_rows.proofs.table.have_one_region.Goals as goal
 

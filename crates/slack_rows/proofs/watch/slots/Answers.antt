@@ -1,4 +1,4 @@
-use Rattle.std.proofs.Common.{◌≡◌, ◌≤◌, arith}
+use Rattle.std.proofs.Common.{arith}
 use Rattle.scald_base.specs.Time.{period}
 use Rattle.critical_paths.specs.Views.{passing}
 use Rattle.slack_rows.proofs.Watching.{slots_at, slots_close}

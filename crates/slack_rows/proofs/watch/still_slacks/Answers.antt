@@ -1,4 +1,4 @@
-use Rattle.std.proofs.Common.{◌≡◌, ℕ, ◌+◌, ◌<◌, ◌≤◌, Bool, true, false, not, ◌&&◌, List, [], ◌∷◌, length, map, None, refl, sym, ap, subst, ◌∙◌, arith}
+use Rattle.std.proofs.Common.{◌≡◌, ℕ, ◌≤◌, Bool, true, false, not, ◌&&◌, List, [], ◌∷◌, length, map, None, refl, sym, ap, subst, ◌∙◌, arith}
 use Rattle.std.specs.Prelude.{◌==◌}
 use Rattle.std.specs.List.{AllByRecursion}
 use Rattle.scald_base.specs.Time.{period}
@@ -14,7 +14,7 @@ use Rattle.slack_rows.specs.Held.{AreChanges, AreSlots, launches_of, place_in, t
 use Rattle.slack_rows.specs.Laws.{IsPlaced}
 use Rattle.slack_rows.specs.Slack.{NoNumber, Nowhere, told_alone, told_of}
 use Rattle.slack_rows.specs.Views.{told_by_found, told_none}
-use Rattle.slack_rows.specs.Window.{Window, about}
+use Rattle.slack_rows.specs.Window.{about}
 use Rattle.slack_rows.proofs.Checkers.{all_placed}
 use Rattle.slack_rows.proofs.Parting.{no_first_way, no_last_way, none_parts, parts_always, parts_free, parts_never, parts_unmet, parts_windows, some_parts}
 use Rattle.slack_rows.proofs.Watching.{changes_are, nothing_here, some_where_all, something_here, windows_are}

@@ -1,4 +1,3 @@
-use Rattle.std.proofs.Common.{◌≡◌, true}
 use Rattle.fixpoint_engine.specs.Waves.{waves_of}
 use Rattle.slack_rows.proofs.Pathing.{goes_then}
 use Rattle.slack_rows.proofs.ways.side.Goals as goal

@@ -1,4 +1,4 @@
-use Rattle.std.proofs.Common.{◌≡◌, length, arith, sym, ◌∙◌}
+use Rattle.std.proofs.Common.{length, sym, ◌∙◌}
 use Rattle.fixpoint_engine.specs.Pins.{read}
 use Rattle.slack_rows.proofs.Narrowed.{next_found, none_left}
 use Rattle.slack_rows.proofs.width.narrowest.Goals as goal

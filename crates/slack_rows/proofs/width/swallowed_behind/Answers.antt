@@ -1,4 +1,4 @@
-use Rattle.std.proofs.Common.{length, sym, ap, ◌∙◌}
+use Rattle.std.proofs.Common.{sym, ap, ◌∙◌}
 use Rattle.flat_circuit.specs.Split.{two_delays}
 use Rattle.fixpoint_engine.specs.Waves.{waves_of}
 use Rattle.slack_rows.specs.Pulse.{left_by, left_in}

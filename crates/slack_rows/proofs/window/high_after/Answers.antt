@@ -1,4 +1,4 @@
-use Rattle.std.proofs.Common.{◌≡◌, ℕ, ◌+◌, Bool, false, true, cond, length, refl, sym, ap, ◌∙◌, None}
+use Rattle.std.proofs.Common.{ℕ, ◌+◌, Bool, false, true, cond, length, refl, sym, ap, ◌∙◌, None}
 use Rattle.std.specs.Option.{option_map}
 use Rattle.step_values.specs.Cell.{values}
 use Rattle.step_values.specs.Steps.{has}

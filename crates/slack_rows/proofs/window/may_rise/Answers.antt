@@ -1,4 +1,4 @@
-use Rattle.std.proofs.Common.{◌≡◌, ℕ, ◌+◌, ◌<◌, ◌≤◌, false, true, length, sym, ap, ◌∙◌, arith, rules}
+use Rattle.std.proofs.Common.{◌≡◌, ℕ, ◌+◌, false, true, length, sym, ap, ◌∙◌, arith, rules}
 use Rattle.step_values.specs.Cell.{values}
 use Rattle.step_values.specs.Steps.{has}
 use Rattle.wave_core.specs.Slots.{cell_round}

@@ -1,5 +1,5 @@
 use Rattle.std.proofs.Common.{◌≡◌}
-use Rattle.critical_paths.specs.Told.{Grows}
+use Rattle.critical_paths.specs.Known.{Grows}
 use Rattle.critical_paths.proofs.path.Paths.append_all.Given as goal
 
 abbrev pub invariant-loop-reached : goal.invariant-loop-reached

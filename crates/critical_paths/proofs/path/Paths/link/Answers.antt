@@ -4,7 +4,7 @@ use Rattle.fixpoint_engine.specs.Waves.{waves_of}
 use Rattle.critical_paths.specs.declared.event.Stop.{Stop}
 use Rattle.critical_paths.specs.declared.path.Passage.{Passage}
 use Rattle.critical_paths.specs.declared.path.Paths.{Paths}
-use Rattle.critical_paths.specs.Told.{Grows, Has, IsBegun, are_met, path_told, stop_after}
+use Rattle.critical_paths.specs.Known.{Grows, Has, IsBegun, are_met, path_known, stop_after}
 use Rattle.critical_paths.specs.Walk.{path_of_stop}
 use Rattle.critical_paths.proofs.Memo.{told_is}
 use Rattle.critical_paths.proofs.Settles.{begin_more_at, grows_then, known_within, short_node, small_circuit, small_stops}
@@ -119,7 +119,7 @@ returns-clause-path g c =
     let past = c.loop-back-test.false in
     let begun = c.loop-back.invariant.begun in
     let done : c.args.past - c.loop-back.back ≡ 0 = omega (arith, past) in
-    subst (λ (k : ℕ). path_told nodes c.loop-back.number
+    subst (λ (k : ℕ). path_known nodes c.loop-back.number
     ≡ Some (path_of_stop circuit ws (stop_after chain t k))) done
     (told_is circuit ws nodes (are_met met) (stop_after chain t (c.args.past - c.loop-back.back))
     c.loop-back.number

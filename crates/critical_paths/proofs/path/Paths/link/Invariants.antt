@@ -1,6 +1,6 @@
 use Rattle.std.proofs.Common.{◌-◌}
 use Rattle.fixpoint_engine.specs.Waves.{waves_of}
-use Rattle.critical_paths.specs.Told.{Grows, IsBegun}
+use Rattle.critical_paths.specs.Known.{Grows, IsBegun}
 use Rattle.critical_paths.proofs.path.Paths.link.Given as goal
 
 abbrev pub invariant-loop-back : goal.invariant-loop-back

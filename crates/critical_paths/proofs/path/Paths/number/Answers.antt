@@ -1,5 +1,5 @@
 use Rattle.std.proofs.Common.{◌≡◌, ℕ, Option, MatchOption, false, sym, subst, ◌∙◌}
-use Rattle.critical_paths.specs.Told.{Has, are_met}
+use Rattle.critical_paths.specs.Known.{Has, are_met}
 use Rattle.critical_paths.proofs.Keys.{got}
 use Rattle.critical_paths.proofs.path.Paths.number.Goals as goal
 

@@ -1,6 +1,6 @@
 use Rattle.std.proofs.Common.{◌≡◌, ℕ, ◌+◌, ◌-◌, ◌++◌, ◌∷◌, [], List, ap, sym, subst, ◌∙◌, arith}
 use Rattle.critical_paths.specs.declared.event.Stop.{Stop}
-use Rattle.critical_paths.specs.Told.{IsNumbered}
+use Rattle.critical_paths.specs.Known.{IsNumbered}
 use Rattle.critical_paths.proofs.Turning.{numbered_all, numbered_more, unnumbered}
 use Rattle.critical_paths.specs.declared.path.Paths.{Paths}
 use Rattle.critical_paths.specs.declared.path.Passage.{Passage}

@@ -1,5 +1,5 @@
 use Rattle.std.proofs.Common.{◌≡◌}
-use Rattle.critical_paths.specs.Told.{IsNumbered}
+use Rattle.critical_paths.specs.Known.{IsNumbered}
 use Rattle.critical_paths.proofs.path.Paths.number_round.Given as goal
 
 abbrev pub invariant-loop-place : goal.invariant-loop-place

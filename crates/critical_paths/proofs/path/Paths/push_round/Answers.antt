@@ -2,7 +2,7 @@ use Rattle.std.proofs.Common.{◌+◌, length, ap, sym, subst, ◌∙◌, arith}
 use Rattle.critical_paths.specs.declared.event.Stop.{Stop}
 use Rattle.critical_paths.specs.declared.path.Passage.{Passage}
 use Rattle.critical_paths.specs.declared.path.Paths.{Paths}
-use Rattle.critical_paths.specs.Told.{IsRound}
+use Rattle.critical_paths.specs.Known.{IsRound}
 use Rattle.critical_paths.proofs.Turning.{round_more_at}
 use Rattle.critical_paths.proofs.path.Paths.push_round.Goals as goal
 use Rattle.critical_paths.proofs.path.Paths.push_round.Goals.{in-Some+in_ok-push, in_default}

@@ -1,5 +1,5 @@
 use Rattle.std.proofs.Common.{◌≡◌}
-use Rattle.critical_paths.specs.Told.{IsRound}
+use Rattle.critical_paths.specs.Known.{IsRound}
 use Rattle.critical_paths.proofs.path.Paths.push_round.Given as goal
 
 abbrev pub invariant-loop-place : goal.invariant-loop-place

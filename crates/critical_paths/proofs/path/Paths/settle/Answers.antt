@@ -4,7 +4,7 @@ use Rattle.std.proofs.lemmas.Option.{slice_get_within}
 use Rattle.critical_paths.specs.declared.event.Stop.{Stop}
 use Rattle.critical_paths.specs.declared.path.Node.{Node}
 use Rattle.fixpoint_engine.specs.Waves.{waves_of}
-use Rattle.critical_paths.specs.Told.{IsBegun, IsHalt, IsNumbered, IsRound}
+use Rattle.critical_paths.specs.Known.{IsBegun, IsHalt, IsNumbered, IsRound}
 use Rattle.critical_paths.proofs.Settles.{begin_end_at, begin_known, small_circuit, small_stops}
 use Rattle.critical_paths.proofs.Turning.{begin_round}
 use Rattle.critical_paths.proofs.Walks.{chain_short}

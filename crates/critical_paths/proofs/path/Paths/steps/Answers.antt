@@ -2,7 +2,7 @@ use Rattle.std.proofs.Common.{◌≡◌, ℕ, ◌+◌, ◌*◌, ◌^◌, ◌≤�
 use Rattle.std.proofs.lemmas.Int.{ints}
 use Rattle.critical_paths.specs.declared.path.Node.{Node}
 use Rattle.critical_paths.specs.declared.path.Step.{Step}
-use Rattle.critical_paths.specs.Told.{IsNear, step_at, steps_from, way_of}
+use Rattle.critical_paths.specs.Known.{IsNear, step_at, steps_from, way_of}
 use Rattle.critical_paths.proofs.Stepping.{short_near, steps_done, steps_more, way_long}
 use Rattle.critical_paths.proofs.path.Paths.steps.Goals as goal
 

@@ -1,5 +1,5 @@
 use Rattle.std.proofs.Common.{◌≡◌, ◌+◌, ◌*◌, ◌^◌, ◌++◌, drop}
-use Rattle.critical_paths.specs.Told.{IsNear, steps_from}
+use Rattle.critical_paths.specs.Known.{IsNear, steps_from}
 use Rattle.critical_paths.proofs.path.Paths.steps.Given as goal
 
 abbrev pub invariant-loop-place : goal.invariant-loop-place

@@ -2,7 +2,7 @@ use Rattle.std.proofs.Common.{◌≡◌, ℕ, ◌+◌, ◌++◌, ◌∷◌, [], 
 use Rattle.critical_paths.specs.declared.event.Stop.{Stop}
 use Rattle.critical_paths.specs.declared.path.Passage.{Passage}
 use Rattle.fixpoint_engine.specs.Waves.{waves_of}
-use Rattle.critical_paths.specs.Told.{Has, LeadsWithin, Walked, are_met}
+use Rattle.critical_paths.specs.Known.{Has, LeadsWithin, Walked, are_met}
 use Rattle.critical_paths.proofs.Stops.{stop_turned}
 use Rattle.critical_paths.proofs.Keys.{entered, not_got, placed}
 use Rattle.critical_paths.proofs.Memo.{tells_level}

@@ -1,7 +1,7 @@
 use Rattle.std.proofs.Common.{◌-◌, length}
 use Rattle.fixpoint_engine.specs.Waves.{waves_of}
 use Rattle.critical_paths.specs.Walk.{stop_count}
-use Rattle.critical_paths.specs.Told.{Walked}
+use Rattle.critical_paths.specs.Known.{Walked}
 use Rattle.critical_paths.proofs.path.Paths.walk.Given as goal
 
 abbrev pub invariant-links : goal.invariant-links

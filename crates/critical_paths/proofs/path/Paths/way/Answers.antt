@@ -1,6 +1,6 @@
 use Rattle.std.proofs.Common.{◌+◌, ◌-◌, ◌++◌, ◌∷◌, [], List, ap, sym, arith, ◌∙◌}
 use Rattle.critical_paths.specs.declared.path.Node.{Node}
-use Rattle.critical_paths.specs.Told.{nodes_on, way_by, way_of}
+use Rattle.critical_paths.specs.Known.{nodes_on, way_by, way_of}
 use Rattle.critical_paths.proofs.Nodes.{way_more}
 use Rattle.critical_paths.proofs.path.Paths.way.Goals as goal
 

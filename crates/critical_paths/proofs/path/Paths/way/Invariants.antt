@@ -1,5 +1,5 @@
 use Rattle.std.proofs.Common.{◌≡◌, ◌-◌, ◌++◌}
-use Rattle.critical_paths.specs.Told.{nodes_on, way_of}
+use Rattle.critical_paths.specs.Known.{nodes_on, way_of}
 use Rattle.critical_paths.proofs.path.Paths.way.Given as goal
 
 abbrev pub invariant-loop : goal.invariant-loop

@@ -1,5 +1,5 @@
 use Rattle.std.proofs.Common.{◌≡◌}
-use Rattle.critical_paths.specs.Told.{Grows}
+use Rattle.critical_paths.specs.Known.{Grows}
 use Rattle.critical_paths.proofs.path.Paths.work_out.Given as goal
 
 abbrev pub invariant-places : goal.invariant-places

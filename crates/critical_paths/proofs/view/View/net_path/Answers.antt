@@ -1,10 +1,10 @@
-use Rattle.std.proofs.Common.{◌≡◌, ◌^◌, ◌<◌, sym, ap, subst, ◌∙◌, arith, to_z, of_z, w64}
+use Rattle.std.proofs.Common.{◌≡◌, ◌^◌, ◌<◌, sym, ap, subst, ◌∙◌, arith, to_z, of_z, w64, Some}
 use Rattle.std.proofs.lemmas.Int.{ints}
 use Rattle.scald_base.specs.Time.{period}
 use Rattle.fixpoint_engine.specs.Waves.{waves_of}
 use Rattle.critical_paths.specs.declared.event.Stop.{Stop}
 use Rattle.critical_paths.specs.declared.path.At.{At}
-use Rattle.critical_paths.specs.Told.{IsNear, IsStop}
+use Rattle.critical_paths.specs.Known.{IsNear, IsStop, corner_known}
 use Rattle.critical_paths.specs.Views.{event_of}
 use Rattle.critical_paths.proofs.MadePaths.{known_edge, known_short, reads_folds}
 use Rattle.critical_paths.proofs.Settles.{small_circuit}
@@ -63,3 +63,10 @@ returns-clause-edge g c =
     c.in_ok-trace.ensures.knows c.in_ok-trace.ensures.has stop
     (ap (λ (s : Stop). s.reading) c.stop_at.ensures.is ∙ reads_folds circuit ws is some event.corner
     event.reading own folded)
+
+pub returns-clause-corner : goal.returns-clause-corner
+returns-clause-corner g c =
+    let known = c.in_ok-trace.ensures.knows.each c.stop_at.result c.in_ok-trace.field-0
+    c.in_ok-trace.ensures.has in
+    ap corner_known known.is
+    ∙ ap (λ (s : Stop). Some s.corner) (known.tells.of ∙ c.stop_at.ensures.is)

@@ -4,7 +4,7 @@ use Rattle.scald_base.specs.Fitting.{skew_of}
 use Rattle.scald_base.specs.Time.{period}
 use Rattle.critical_paths.specs.declared.direction.Corner.{Corner}
 use Rattle.critical_paths.specs.Launch.{offset}
-use Rattle.critical_paths.specs.Told.{IsNear}
+use Rattle.critical_paths.specs.Known.{IsNear}
 use Rattle.critical_paths.proofs.Edges.{offset_found}
 use Rattle.critical_paths.proofs.view.View.offset_if_edge.Goals as goal
 use Rattle.critical_paths.proofs.view.View.offset_if_edge.Goals.{in-Late, in-Early}

@@ -1,13 +1,10 @@
-use Rattle.std.proofs.Common.{◌≡◌, ℕ, ◌+◌, ◌<◌, ◌≤◌, ◌++◌, ◌∷◌, [], List, Option, length, ap, sym, subst, ◌∙◌, arith, rules, slice_index_or}
-use Rattle.std.specs.Prelude.{◌&&◌, ◌||◌, is_none, slice_get}
+use Rattle.std.proofs.Common.{◌≡◌, ℕ, ◌<◌, ◌++◌, ◌∷◌, [], List, Option, length, ap, sym, subst, ◌∙◌, arith, rules}
+use Rattle.std.specs.Prelude.{slice_get}
 use Rattle.std.proofs.lemmas.List.{length-map, length-set}
 use Rattle.fixpoint_engine.specs.Waves.{waves_of}
 use Rattle.slack_rows.specs.declared.parameter.Parameter.{Parameter}
 use Rattle.slack_rows.specs.declared.rows.Least.{Least}
-use Rattle.slack_rows.specs.declared.slack.Told.{Told as Found}
-use Rattle.slack_rows.specs.Slack.{is_broken}
-use Rattle.slack_rows.specs.Views.{slack_told}
-use Rattle.slack_rows.specs.Known.{AreKnown, breaks}
+use Rattle.slack_rows.specs.Known.{AreKnown}
 use Rattle.slack_rows.specs.Limit.{Case}
 use Rattle.slack_rows.proofs.Keeping.{tells_now}
 use Rattle.slack_rows.proofs.Levels.{read_at}

@@ -1,6 +1,6 @@
 use Rattle.std.proofs.Common.{◌≡◌, List}
 use Rattle.fixpoint_engine.specs.Waves.{waves_of}
-use Rattle.critical_paths.specs.Told.{Knows}
+use Rattle.critical_paths.specs.Known.{Knows}
 use Rattle.slack_rows.specs.Known.{AreKnown, SlacksKnown}
 use Rattle.slack_rows.specs.Limit.{Case}
 use Rattle.slack_rows.specs.Rows.{all_limits}

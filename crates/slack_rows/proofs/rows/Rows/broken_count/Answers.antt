@@ -1,4 +1,4 @@
-use Rattle.std.proofs.Common.{◌≡◌, ℕ, ◌+◌, ◌<◌, ◌≤◌, true, false, not, length, ap, sym, subst, ◌∙◌, arith, None, slice_index_or}
+use Rattle.std.proofs.Common.{◌+◌, ◌<◌, true, false, not, length, ap, sym, subst, ◌∙◌, arith}
 use Rattle.std.specs.List.{count_by}
 use Rattle.std.proofs.lemmas.List.{take_all}
 use Rattle.slack_rows.specs.declared.parameter.Parameter.{Parameter}

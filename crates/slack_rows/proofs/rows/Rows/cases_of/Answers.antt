@@ -1,4 +1,4 @@
-use Rattle.std.proofs.Common.{◌≡◌, ℕ, ◌∙◌, ap}
+use Rattle.std.proofs.Common.{ℕ, ◌∙◌, ap}
 use Rattle.std.specs.Prelude.{Option, unwrap_or}
 use Rattle.slack_rows.proofs.Beginning.{number_more}
 use Rattle.slack_rows.proofs.rows.Rows.cases_of.Goals as goal

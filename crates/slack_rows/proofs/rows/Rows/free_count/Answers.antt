@@ -1,4 +1,4 @@
-use Rattle.std.proofs.Common.{◌≡◌, ℕ, ◌+◌, ◌<◌, ◌≤◌, true, false, cond, List, length, ap, sym, subst, ◌∙◌, arith, take}
+use Rattle.std.proofs.Common.{true, false, ap, sym, ◌∙◌, arith}
 use Rattle.std.specs.List.{count_by}
 use Rattle.std.proofs.lemmas.List.{take_all}
 use Rattle.slack_rows.specs.declared.parameter.Parameter.{Parameter}

@@ -1,4 +1,4 @@
-use Rattle.std.proofs.Common.{◌≡◌, ◌∙◌, sym, subst, Option, true, false}
+use Rattle.std.proofs.Common.{◌∙◌, sym, subst, Option}
 use Rattle.slack_rows.specs.declared.rows.Least.{Least}
 use Rattle.slack_rows.specs.Known.{in_one_case, told_least}
 use Rattle.slack_rows.specs.Rows.{told_once}

@@ -1,4 +1,4 @@
-use Rattle.std.proofs.Common.{◌≡◌, ℕ, List, [], sym, subst}
+use Rattle.std.proofs.Common.{ℕ, List, [], sym, subst}
 use Rattle.slack_rows.specs.Known.{AreKnown}
 use Rattle.slack_rows.proofs.Beginning.{known_none}
 use Rattle.slack_rows.proofs.rows.Rows.new.Goals as goal

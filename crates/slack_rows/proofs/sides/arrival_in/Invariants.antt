@@ -1,7 +1,0 @@
-use Rattle.std.specs.Prelude.{IfSome}
-use Rattle.critical_paths.specs.Tick.{IsWithin, most_tick}
-use Rattle.slack_rows.proofs.sides.arrival_in.Given as goal
-
--- it is in the region
-abbrev pub invariant-loop-number : goal.invariant-loop-number
-invariant-loop-number g l = IfSome l.best (λ a. IsWithin most_tick a.tick)

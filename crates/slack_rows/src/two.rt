@@ -1,0 +1,282 @@
+//! Two launches that make one region of changes: the last arrival of the one, and the first of the
+//! other.
+
+ghost use Rattle.std.specs.Prelude.{◌≡◌, ◌<◌, ◌≤◌, ◌+◌, ◌*◌, ◌^◌, ◌≤ℤ◌, ◌+ℤ◌, IfNone, IfOk, IfSome, None, OnOk, Some, if◌then◌else◌, ◌==◌, length, pos};
+ghost use Rattle.std.specs.Option.{option_map};
+ghost use Rattle.scald_base.specs.Time.{period};
+ghost use Rattle.fixpoint_engine.specs.Waves.{target_wire, waves_of};
+ghost use Rattle.critical_paths.specs.Path.{bound};
+ghost use Rattle.critical_paths.specs.declared.direction.Corner.TheVariants.{Late, Early};
+ghost use Rattle.critical_paths.specs.Tick.{IsWithin, most_tick};
+ghost use Rattle.critical_paths.specs.Known.{Knows};
+ghost use Rattle.critical_paths.specs.Views.{Sees};
+ghost use Rattle.slack_rows.specs.Held.{GoesOn, IsBrokenByTwo, IsClose, IsCloseWindow, IsHeld, both_of, edge_at_pin, further_of, step_held, told_back, told_by_arrival};
+ghost use Rattle.slack_rows.specs.Views.{ahead_of, spare_at};
+
+use crate::around::Around;
+use crate::held::Held;
+use crate::launch::step_path;
+use crate::slack::{Slack, Slacks};
+use crate::window::{Window, spare_at};
+use critical_paths::{Arrival, Corner, Direction, Paths, Place, Region, View};
+use fixpoint_engine::wire_behind;
+use flat_circuit::Target;
+use scald_base::NoMemory;
+use step_values::Value;
+use wave_core::CyclicWave;
+
+/// The tick of a region that is whole periods from another one.
+fn tick_in(region: Region, period: u16, tick: i64) -> Option<i64>
+    requires period { 0 < period }
+    requires region { IsWithin most_tick region.first }
+    requires tick { IsWithin most_tick tick }
+    ensures from { IfSome result (λ t. region.first ≤ℤ t) }
+    ensures to { IfSome result (λ t. t ≤ℤ region.last) }
+{
+    let after = (tick - region.first).rem_euclid(i64::from(period));
+    let found = region.first + after;
+    if region.first <= found && found <= region.last {
+        Some(found)
+    } else {
+        None
+    }
+}
+
+/// Whether what arrives at a tick that is whole periods from an arrival is launched before an edge.
+fn is_before(found: Arrival, tick: i64, edge: i64) -> bool
+    requires ideal { IsWithin most_tick found.ideal }
+    requires found { IsWithin most_tick found.tick }
+    requires tick { IsWithin most_tick tick }
+{
+    found.ideal + (tick - found.tick) < edge
+}
+
+/// Of an arrival and another one the one that is further, where it counts.
+fn further(corner: Corner, old: Option<Arrival>, new: Arrival) -> Option<Arrival>
+    requires old { IfSome old (λ a. IsWithin most_tick a.tick) }
+    requires new { IsWithin most_tick new.tick }
+    ensures near { IfSome result (λ a. IsWithin most_tick a.tick) }
+    ensures is { result ≡ further_of corner old new }
+{
+    match old {
+        Some(other) if !corner.is_further(new.tick, other.tick) => old,
+        _ => Some(new),
+    }
+}
+
+/// Of the arrivals at a pin in a region the last that is launched before an edge, or the first
+/// that is launched by it or after it.
+fn arrival_in<W: CyclicWave<Item = Value>>(
+    view: &View<W>,
+    paths: &mut Paths,
+    held: Held,
+    region: Region,
+    edge: (u32, i64),
+    corner: Corner,
+) -> Result<Option<Arrival>, NoMemory>
+    requires sees { Sees view.now.circuit.now view.now.waves.now view.now.hazards.now }
+    requires knows { Knows view.now.circuit.now (waves_of view.now.waves.now) paths.old.nodes
+        paths.old.met.entries }
+    requires region { IsClose (period view.now.circuit.now.header) region }
+    ensures paths { OnOk result (GoesOn view.now.circuit.now (waves_of view.now.waves.now)
+        paths.old.nodes paths.new.nodes paths.new.met.entries) }
+    ensures near { IfOk result (λ found. IfSome found (λ a. IsWithin most_tick a.tick)) }
+{
+    let Some((from, to)) = find(view, paths, held, edge.0, corner)? else {
+        return Ok(None);
+    };
+    let period = view.period();
+    let mut best: Option<Arrival> = None;
+    for number in from..to {
+        let found = at_pin(view, held, paths.arrival(number), corner);
+        if let Some(tick) = tick_in(region, period, found.tick) {
+            if is_before(found, tick, edge.1) == (corner == Corner::Late) {
+                best = further(corner, best, Arrival { tick, ..found });
+            }
+        }
+    }
+    Ok(best)
+}
+
+/// Where the arrivals of a clock's edges at a pin stand.
+pub fn find<W: CyclicWave<Item = Value>>(
+    view: &View<W>,
+    paths: &mut Paths,
+    held: Held,
+    clock: u32,
+    corner: Corner,
+) -> Result<Option<(usize, usize)>, NoMemory>
+    requires sees { Sees view.now.circuit.now view.now.waves.now view.now.hazards.now }
+    requires knows { Knows view.now.circuit.now (waves_of view.now.waves.now) paths.old.nodes
+        paths.old.met.entries }
+    ensures paths { OnOk result (GoesOn view.now.circuit.now (waves_of view.now.waves.now)
+        paths.old.nodes paths.new.nodes paths.new.met.entries) }
+    ensures range { IfOk result (λ found. IfSome found
+        (λ range. (range.0 ≤ range.1) × (range.1 ≤ length paths.new.arrivals))) }
+{
+    let Target::Net(net) = held.pin.target else {
+        return Ok(None);
+    };
+    let place = Place {
+        clock,
+        net,
+        direction: Direction::Change,
+        corner,
+    };
+    paths.find(view, place)
+}
+
+/// An arrival behind the wire to a pin.
+pub fn at_pin<W: CyclicWave<Item = Value>>(
+    view: &View<W>,
+    held: Held,
+    arrival: Arrival,
+    corner: Corner,
+) -> Arrival
+    requires sees { Sees view.now.circuit.now view.now.waves.now view.now.hazards.now }
+    requires ideal { IsWithin (2 ^ 46) arrival.ideal }
+    requires tick { IsWithin (2 ^ 46) arrival.tick }
+    ensures ideal { IsWithin (2 ^ 46) result.ideal }
+    ensures tick { IsWithin (2 ^ 46 + 65536) result.tick }
+    ensures is { result ≡ record {
+      ideal = arrival.ideal;
+      tick = arrival.tick +ℤ pos (bound corner (target_wire view.now.circuit.now.nets
+          held.pin.target));
+      node = arrival.node;
+    } }
+{
+    let wire = corner.bound(wire_behind(view.circuit, held.pin.target));
+    Arrival {
+        tick: arrival.tick + i64::from(wire),
+        ..arrival
+    }
+}
+
+/// The clock's edge that a window is held against.
+pub fn edge_of<W: CyclicWave<Item = Value>>(
+    view: &View<W>,
+    paths: &mut Paths,
+    held: Held,
+    window: Window,
+    corner: Corner,
+) -> Result<Option<(u32, i64)>, NoMemory>
+    requires sees { Sees view.now.circuit.now view.now.waves.now view.now.hazards.now }
+    requires knows { Knows view.now.circuit.now (waves_of view.now.waves.now) paths.old.nodes
+        paths.old.met.entries }
+    requires held { IsHeld view.now.circuit.now held }
+    requires window { IsCloseWindow (period view.now.circuit.now.header) window }
+    ensures paths { OnOk result (GoesOn view.now.circuit.now (waves_of view.now.waves.now)
+        paths.old.nodes paths.new.nodes paths.new.met.entries) }
+    ensures edge { let c = view.now.circuit.now in let p = period c.header in
+        let step = step_held held window corner in IfOk result (λ found. found
+        ≡ option_map (told_back (3 * p)) (edge_at_pin c (waves_of view.now.waves.now) step.corner
+        step.pin step.direction (ahead_of p step.tick))) }
+{
+    let found = step_path(view, paths, held.edge(window, corner))?;
+    Ok(match found {
+        Some(clock) => paths.edge(clock),
+        None => None,
+    })
+}
+
+/// The slacks of two arrivals in a region, where one is broken.
+fn broken_by(held: Held, window: Window, late: Arrival, early: Arrival) -> Option<Slacks>
+    requires from { IsWithin most_tick window.from }
+    requires to { IsWithin most_tick window.to }
+    requires late { IsWithin most_tick late.tick }
+    requires early { IsWithin most_tick early.tick }
+    ensures level { IfSome result (λ found. found.level ≡ None) }
+    ensures before { IfSome result (λ found. found.before ≡ Some (told_by_arrival held
+        (Slack.Ticks (spare_at Late window late.tick)) window late)) }
+    ensures after { IfSome result (λ found. found.after ≡ Some (told_by_arrival held
+        (Slack.Ticks (spare_at Early window early.tick)) window early)) }
+    ensures broken { IfSome result IsBrokenByTwo }
+    ensures met { IfNone result ((pos 0 ≤ℤ spare_at Late window late.tick)
+        × (pos 0 ≤ℤ spare_at Early window early.tick)) }
+{
+    let before = spare_at(Corner::Late, window, late.tick);
+    let after = spare_at(Corner::Early, window, early.tick);
+    if before >= 0 && after >= 0 {
+        return None;
+    }
+    Some(Slacks {
+        level: None,
+        before: Some(held.told(Slack::Ticks(before), window, late)),
+        after: Some(held.told(Slack::Ticks(after), window, early)),
+    })
+}
+
+/// The slacks of two launches that make one region, where both arrivals are known and one is
+/// broken.
+fn by_two<W: CyclicWave<Item = Value>>(
+    view: &View<W>,
+    paths: &mut Paths,
+    held: Held,
+    window: Window,
+    region: Region,
+) -> Result<Option<Slacks>, NoMemory>
+    requires sees { Sees view.now.circuit.now view.now.waves.now view.now.hazards.now }
+    requires knows { Knows view.now.circuit.now (waves_of view.now.waves.now) paths.old.nodes
+        paths.old.met.entries }
+    requires held { IsHeld view.now.circuit.now held }
+    requires window { IsCloseWindow (period view.now.circuit.now.header) window }
+    requires region { IsClose (period view.now.circuit.now.header) region }
+    ensures paths { OnOk result (GoesOn view.now.circuit.now (waves_of view.now.waves.now)
+        paths.old.nodes paths.new.nodes paths.new.met.entries) }
+    ensures level { IfOk result (λ found. IfSome found (λ all. all.level ≡ None)) }
+    ensures broken { IfOk result (λ found. IfSome found IsBrokenByTwo) }
+{
+    let Some(edge) = edge_of(view, paths, held, window, Corner::Late)? else {
+        return Ok(None);
+    };
+    let late = arrival_in(view, paths, held, region, edge, Corner::Late)?;
+    let early = arrival_in(view, paths, held, region, edge, Corner::Early)?;
+    match (late, early) {
+        (Some(late), Some(early)) => Ok(broken_by(held, window, late, early)),
+        _ => Ok(None),
+    }
+}
+
+/// What is held against two launches that make the only region that meets a window, and the region.
+pub fn meets_two(held: Option<Held>, all: Around) -> Option<(Held, Region)>
+    ensures held { IfSome result (λ found. held ≡ Some found.0) }
+    ensures two { IfSome result (λ found. all.two ≡ Some found.1) }
+    ensures met { IfSome result (λ found. all.met ≡ 1) }
+    ensures is { result ≡ (if all.met == 1 then both_of held all.two else None) }
+{
+    if all.met != 1 {
+        return None;
+    }
+    match (held, all.two) {
+        (Some(held), Some(region)) => Some((held, region)),
+        _ => None,
+    }
+}
+
+/// The same, if there is such a region.
+pub fn by_two_if<W: CyclicWave<Item = Value>>(
+    view: &View<W>,
+    paths: &mut Paths,
+    window: Window,
+    met: Option<(Held, Region)>,
+) -> Result<Option<Slacks>, NoMemory>
+    requires sees { Sees view.now.circuit.now view.now.waves.now view.now.hazards.now }
+    requires knows { Knows view.now.circuit.now (waves_of view.now.waves.now) paths.old.nodes
+        paths.old.met.entries }
+    requires window { IsCloseWindow (period view.now.circuit.now.header) window }
+    requires met { IfSome met (λ found. IsHeld view.now.circuit.now found.0
+        × IsClose (period view.now.circuit.now.header) found.1) }
+    ensures paths { OnOk result (GoesOn view.now.circuit.now (waves_of view.now.waves.now)
+        paths.old.nodes paths.new.nodes paths.new.met.entries) }
+    ensures level { IfOk result (λ two. IfSome two (λ found. found.level ≡ None)) }
+    ensures broken { IfOk result (λ two. IfSome two IsBrokenByTwo) }
+    ensures only { IfOk result (λ two. met ≡ None → two ≡ None) }
+{
+    match met {
+        None => Ok(None),
+        Some((held, region)) => {
+            let two = by_two(view, paths, held, window, region)?;
+            Ok(two)
+        }
+    }
+}
