@@ -115,7 +115,7 @@ def keywords_of(text):
 def taking_files(words):
     """The words that the names of files may follow, each with how these are taken."""
     apart = spelled(re.search(r"after those of (.*?) it takes the names of files", words, re.I)[1])
-    joined = spelled(re.search(r"After those of (\S*) its files are joined", words)[1])
+    joined = spelled(re.search(r"The files of (\S*), a trace", words)[1])
     return {word: "FILES" for word in apart} | {word: "JOINED" for word in joined}
 
 

@@ -83,8 +83,8 @@ def sections(language, first, first_report, prefix):
         ".PP",
         marked(
             "Without `FILE` the drawing is read from standard input. Of several files each is read in turn, standard "
-            "error has a line `FILE: STATUS` for each, and the exit status is the greatest. A file with the name of a "
-            "word is given as `./NAME`."
+            "error has a line `FILE: STATUS` for each, and the exit status is the greatest; those of `sections` and of "
+            "`judge` are one text. A file with the name of a word is given as `./NAME`."
         ),
     ]
     yield "WORDS", items([(command.form, command.says) for command in language.commands])

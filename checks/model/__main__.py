@@ -14,6 +14,7 @@ import tempfile
 from random import Random
 
 from .mending import mend
+from .mistakes import blunder
 from .notes import notes
 from .path_drawings import make_path_drawing
 from .random_drawings import make_drawing
@@ -24,6 +25,7 @@ from .spoiling import spoil
 from .writing import write_drawing
 
 SHARE_SPOILT = 0.12
+SHARE_MISTAKEN = 0.3
 MOST_SECONDS = 60
 MOST_WRONG = 20
 
@@ -67,6 +69,9 @@ def ask_drawing(number):
     """A drawing's text, and the words that are tried on it, each with the answer that there should be."""
     random = Random(number)
     drawing = drawing_of(random, number)
+    other = Random(f"mistakes {number}")
+    if other.random() < SHARE_MISTAKEN:
+        blunder(drawing, other)
     text = write_drawing(drawing)
     mode = random.choice([Mode.WHOLE] * 4 + [Mode.WAVES, Mode.FAULTS])
     rounds = random.choice([None] * 6 + [1, 2, 3, 7, 20])

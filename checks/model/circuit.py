@@ -87,6 +87,7 @@ class Circuit:
     drivers: dict = field(default_factory=dict)  # the instance whose output a net is
     cases: list = field(default_factory=list)  # of each, the level of each of its nets
     spreads: list = field(default_factory=list)  # in the order of expansion
+    loops: dict = field(default_factory=dict)  # of each FOR that is reached, by its place, whether it has a turn
 
     @property
     def period(self):

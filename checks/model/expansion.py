@@ -200,6 +200,8 @@ class Expansion:
         """The body for each value. Its nets are those of the scope around."""
         first = value_of(loop.first, scope.parameters, loop.place)
         last = value_of(loop.last, scope.parameters, loop.place)
+        has_turn = self.circuit.loops.get(loop.place, False)
+        self.circuit.loops[loop.place] = has_turn or first <= last
         for value in range(first, last + 1):
             inner = scope._replace(
                 turns=f"{scope.turns}#{value}", parameters={**scope.parameters, loop.word: value}

@@ -6,10 +6,12 @@ is kept from one net for the next.
 from typing import NamedTuple
 
 from .circuit import Net
-from .drawing import Constant, Refused
+from .drawing import Clock, Constant, Refused
+from .elements import first_hazard
+from .omissions import case_notes, empty, near, part
 from .report import Answer, circuit_of
 from .rounds import Unsettled, default_limit, pin_wave, settle_all
-from .values import RISES, STAYS_HIGH, permits
+from .values import RISES, STAYS_HIGH, is_quiet, permits
 from .waves import fold
 
 REGISTERS = ("REG", "REG_RS")
@@ -55,16 +57,19 @@ def idle(circuit):
 
 
 def sees(checker, element):
-    """The checker holds the element's input against the element's own clock net, a register's at the edge that clocks
-    it, a latch's at either edge of its enable."""
-    clock = element.pins[CLOCK]
-    same_clock = checker.pins[CLOCK] == clock or (
-        element.kind in LATCHES and checker.pins[CLOCK].on == clock.on
-    )
+    """The checker holds the element's input against the element's own clock net: a register's at the edge that clocks
+    it, a latch's at the edge that closes it, or from the one to the other."""
+    clock, seen = element.pins[CLOCK], checker.pins[CLOCK]
+    if element.kind in REGISTERS:
+        at_edge = seen == clock
+    elif checker.kind == "SETUP_HOLD_CHK":
+        at_edge = seen == clock.complemented_if(True)
+    else:
+        at_edge = seen.on == clock.on
     return (
         checker.kind in EDGE_CHECKERS
         and checker.pins[INPUT].on == element.pins[INPUT].on
-        and same_clock
+        and at_edge
         and isinstance(clock.on, Net)
     )
 
@@ -74,6 +79,57 @@ def unchecked(circuit):
         if element.kind in STORAGE and isinstance(element.pins[INPUT].on, Net):
             if not any(sees(checker, element) for checker in circuit.checkers):
                 yield f"NOTE UNCHECKED {element} {element.pins[INPUT].on}"
+
+
+# --- clocks through gates
+
+
+GATES = ("BUF", "AND", "OR", "XOR", "MUX2", "MUX4", "MUX8")
+MARKED = ("AND", "OR", "MUX2", "MUX4", "MUX8")  # kinds that a clock passes only with a mark, or not at all
+
+
+def through_gates(circuit, start):
+    """These nets, and those that they reach through gates alone."""
+    reached = set(start)
+    while True:
+        more = {
+            net
+            for net, driver in circuit.drivers.items()
+            if driver.kind in GATES and any(pin.on in reached for pin in driver.pins)
+        }
+        if more <= reached:
+            return reached
+        reached |= more
+
+
+def has_change(circuit, case, pin):
+    """Whether what the pin shows may change in some slot of the case."""
+    return not all(map(is_quiet, fold(pin_wave(circuit, case.waves, pin))))
+
+
+def is_timing(circuit, net):
+    """Whether the net reaches a clock, an enable or the pin of a pulse checker through gates alone."""
+    ends = through_gates(circuit, [net])
+    return any(
+        instance.pins[CLOCK].on in ends
+        for instance in circuit.instances
+        if instance.kind in STORAGE or not instance.is_element
+    )
+
+
+def unmarked(circuit, cases):
+    clocks = through_gates(circuit, (net for net in circuit.nets if isinstance(circuit.assertion(net), Clock)))
+    for gate in circuit.elements:
+        if gate.kind not in MARKED or gate.marked is not None or not isinstance(gate.output.on, Net):
+            continue
+        if not is_timing(circuit, gate.output.on):
+            continue
+        of_clocks = [pin for pin in gate.pins if pin.on in clocks]
+        open_cases = [case for case in cases if any(has_change(circuit, case, pin) for pin in of_clocks)]
+        for number, pin in enumerate(gate.pins):
+            if pin.on not in clocks and any(has_change(circuit, case, pin) for case in open_cases):
+                yield f"NOTE UNMARKED {gate} PIN {number} {pin.on}"
+                break
 
 
 # --- nets
@@ -131,37 +187,104 @@ class Arrival(NamedTuple):
     storage: int
 
 
-class Paths:
-    """The greatest sums of delays along paths from storage, net by net."""
+def latest(arrivals):
+    """The greatest sum; of those that have it, the one from the first storage."""
+    arrivals = [arrival for arrival in arrivals if arrival is not None]
+    return min(arrivals, key=lambda arrival: (-arrival.ticks, arrival.storage), default=None)
 
-    def __init__(self, circuit):
+
+SELECTS = {"MUX2": 1, "MUX4": 2, "MUX8": 3}
+KEEPING = ("BUF", "AND", "OR", *SELECTS)  # kinds whose output rises with rises of their data
+
+
+class Paths:
+    """The greatest sums of delays along the paths of a case, net by net, to a rise and to a fall."""
+
+    def __init__(self, circuit, case, looping):
         self.circuit = circuit
-        self.looping = set().union(*loops(circuit).values())
+        self.waves = case.waves
+        self.looping = looping
         self.places = {id(instance): place for place, instance in enumerate(circuit.instances)}
         self.known = {}
+        self.heard = {}
 
-    def latest(self, arrivals):
-        """The greatest sum; of those that have it, the one from the first storage."""
-        arrivals = [arrival for arrival in arrivals if arrival is not None]
-        return min(arrivals, key=lambda arrival: (-arrival.ticks, arrival.storage), default=None)
+    def passes(self, net):
+        """Nothing passes a net of a loop, or one that never changes."""
+        return net not in self.looping and not all(map(is_quiet, fold(self.waves[net])))
 
-    def at_net(self, net):
-        if net not in self.known:
-            self.known[net] = self.made_at(net)
-        return self.known[net]
+    def level(self, pin):
+        """The bit that a pin shows in each slot, if there is one."""
+        shown = set(fold(pin_wave(self.circuit, self.waves, pin)))
+        return {"0": 0, "1": 1}.get(shown.pop()) if len(shown) == 1 else None
 
-    def made_at(self, net):
+    def hearing(self, element):
+        """The numbers of the pins that the output may change with: the marked one alone where its rule holds, and of
+        data only what the selects that stay at a bit do not exclude."""
+        if id(element) not in self.heard:
+            self.heard[id(element)] = self.heard_by(element)
+        return self.heard[id(element)]
+
+    def heard_by(self, element):
+        waves = [pin_wave(self.circuit, self.waves, pin) for pin in element.pins]
+        if element.marked is not None and first_hazard(element.kind, waves, element.marked) is None:
+            return [element.marked]
+        selects = SELECTS.get(element.kind, 0)
+        levels = [self.level(pin) for pin in element.pins[:selects]]
+        found = list(range(selects))
+        for number in range(selects, len(element.pins)):
+            bits = f"{number - selects:0{selects}b}" if selects else ""
+            if all(level is None or level == int(bit) for level, bit in zip(levels, bits)):
+                found.append(number)
+        return found
+
+    def changes_of(self, element, number, rises):
+        """Which changes of the net at a pin make the net of the output rise, or fall."""
+        if element.kind not in KEEPING or number < SELECTS.get(element.kind, 0):
+            return (True, False)
+        turned = element.pins[number].is_complemented != element.output.is_complemented
+        return (rises != turned,)
+
+    def at_net(self, net, rises):
+        if (net, rises) not in self.known:
+            self.known[net, rises] = self.made_at(net, rises)
+        return self.known[net, rises]
+
+    def made_at(self, net, rises):
         driver = self.circuit.drivers.get(net)
-        if driver is None or net in self.looping:
+        if driver is None or not self.passes(net):
             return None
         if driver.kind in STORAGE:
             return Arrival(driver.delay.greatest, self.places[id(driver)])
-        latest = self.latest(self.at_pin(pin) for pin in driver.pins)
-        return latest and latest._replace(ticks=latest.ticks + driver.delay.greatest)
+        delay = driver.delay
+        if driver.split is not None:
+            delay = driver.split.rise if rises != driver.output.is_complemented else driver.split.fall
+        found = latest(
+            self.at_pin(driver.pins[number], change)
+            for number in self.hearing(driver)
+            for change in self.changes_of(driver, number, rises)
+        )
+        return found and found._replace(ticks=found.ticks + delay.greatest)
 
-    def at_pin(self, pin):
-        arrival = self.at_net(pin.on) if isinstance(pin.on, Net) else None
+    def at_pin(self, pin, rises):
+        """Of a rise or a fall of the pin's net, behind the wire."""
+        arrival = self.at_net(pin.on, rises) if isinstance(pin.on, Net) else None
         return arrival and arrival._replace(ticks=arrival.ticks + self.circuit.wire(pin).greatest)
+
+    def launches(self, clock, net):
+        """Whether a path leads to a net from storage whose clock or enable is on another."""
+        reached, left = set(), [net]
+        while left:
+            on = left.pop()
+            driver = self.circuit.drivers.get(on)
+            if on in reached or driver is None or not self.passes(on):
+                continue
+            reached.add(on)
+            if driver.kind in STORAGE:
+                if driver.pins[CLOCK].on == clock:
+                    return True
+            else:
+                left += (driver.pins[number].on for number in self.hearing(driver))
+        return False
 
 
 def late(circuit, paths):
@@ -169,7 +292,7 @@ def late(circuit, paths):
         if instance.is_element and instance.kind not in STORAGE:
             continue
         for number, pin in enumerate(instance.pins):
-            arrival = paths.at_pin(pin)
+            arrival = latest(of_case.at_pin(pin, rises) for of_case in paths for rises in (True, False))
             if arrival is not None and arrival.ticks > circuit.period:
                 yield (
                     f"NOTE LATE {instance} PIN {number} {pin.on} TICKS {arrival.ticks}"
@@ -192,58 +315,39 @@ def unknown(circuit, cases):
             yield f"NOTE UNKNOWN CASE {case.number} NETS {len(nets)} {nets[0]}"
 
 
-def launched_from(circuit, net, looping):
-    """The storage from which a path leads to a net."""
-    found = []
-    for on in {net} | led_from_without(circuit, net, looping):
-        driver = circuit.drivers.get(on)
-        if on not in looping and driver is not None and driver.kind in STORAGE:
-            found.append(driver)
-    return found
-
-
-def led_from_without(circuit, net, looping):
-    """The nets from which a net is reached over no net of a loop, itself no such net either."""
-    reached, left = set(), [net]
-    while left:
-        on = left.pop()
-        if on in looping:
-            continue
-        for pin in feeding(circuit, on):
-            if pin.on not in reached and pin.on not in looping:
-                reached.add(pin.on)
-                left.append(pin.on)
-    return reached
-
-
-def common(circuit, cases, paths):
+def common(circuit, paths):
     for checker in circuit.checkers:
         if checker.kind not in EDGE_CHECKERS:
             continue
         clock, data = (pin.on for pin in checker.pins)
         if not isinstance(clock, Net) or not isinstance(data, Net):
             continue
-        skew = max(case.waves[clock].skew for case in cases)
-        launched = launched_from(circuit, data, paths.looping)
-        if skew > 0 and any(storage.pins[CLOCK].on == clock for storage in launched):
-            yield f"NOTE COMMON {checker} {clock} TICKS {skew}"
+        skews = [of_case.waves[clock].skew for of_case in paths if of_case.launches(clock, data)]
+        if any(skews):
+            yield f"NOTE COMMON {checker} {clock} TICKS {max(skews)}"
 
 
 # --- the answer
 
 
 def note_lines(circuit, cases):
-    paths = Paths(circuit)
+    looping = set().union(*loops(circuit).values())
+    paths = [Paths(circuit, case, looping) for case in cases]
     return [
         *unclocked(circuit, cases),
         *idle(circuit),
         *unchecked(circuit),
+        *unmarked(circuit, cases),
         *unread(circuit),
+        *part(circuit),
+        *near(circuit),
         *spread(circuit),
+        *empty(circuit),
+        *case_notes(circuit),
         *late(circuit, paths),
         *looped(circuit),
         *unknown(circuit, cases),
-        *common(circuit, cases, paths),
+        *common(circuit, paths),
     ]
 
 

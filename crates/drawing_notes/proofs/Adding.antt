@@ -21,7 +21,7 @@ adds_both first second old between new a b = record {
 
 -- ---- of one number after the other
 
-lines_more : (f : ℕ → List (List ℕ)) (n : ℕ) → flat_map f (range_with_len 0 (n + 1)) ≡ flat_map f (range_with_len 0 n) ++ f n
+pub lines_more : (f : ℕ → List (List ℕ)) (n : ℕ) → flat_map f (range_with_len 0 (n + 1)) ≡ flat_map f (range_with_len 0 n) ++ f n
 lines_more f n =
     ap (flat_map f) (range_more 0 n n (omega arith)) ∙ flat_map-append f (range_with_len 0 n) (n ∷ [])
     ∙ ap (λ (l : List (List ℕ)). flat_map f (range_with_len 0 n) ++ l) (append-nil (f n))
@@ -45,3 +45,12 @@ adds_item f xs k old between new below before one =
     (ap (λ (l : List (List ℕ)). flat_map f (take k xs) ++ l) (sym (append-nil (f (get_or xs k 0))))
     ∙ sym (flat_map-append f (take k xs) (get_or xs k 0 ∷ [])) ∙ ap (flat_map f) (sym (take_more xs k 0 below)))
     (adds_both (flat_map f (take k xs)) (f (get_or xs k 0)) old between new before one)
+
+pub adds_item_of : {X : Type 0} (f : X → List (List ℕ)) (xs : List X) (k : ℕ) (d : X) (old between new : Lines) →
+    k < length xs →
+    Adds old between (flat_map f (take k xs)) → Adds between new (f (get_or xs k d)) → Adds old new (flat_map f (take (k + 1) xs))
+adds_item_of f xs k d old between new below before one =
+    subst (Adds old new)
+    (ap (λ (l : List (List ℕ)). flat_map f (take k xs) ++ l) (sym (append-nil (f (get_or xs k d))))
+    ∙ sym (flat_map-append f (take k xs) (get_or xs k d ∷ [])) ∙ ap (flat_map f) (sym (take_more xs k d below)))
+    (adds_both (flat_map f (take k xs)) (f (get_or xs k d)) old between new before one)

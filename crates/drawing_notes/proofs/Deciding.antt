@@ -1,13 +1,14 @@
 -- Among so many nets it is decided which ones a search finds, and so which ones a clock launches: by the ways over none of
 -- them, over the first of them, over the first two, and so on.
-use Rattle.std.proofs.Common.{◌≡◌, ℕ, zero, suc, ◌<◌, ◌&&◌, ◌||◌, Bool, true, false, not, inl, inr, length, refl, ap, subst, arith}
+use Rattle.std.proofs.Common.{◌≡◌, ℕ, zero, suc, ◌<◌, ◌&&◌, ◌||◌, Bool, true, false, inl, inr, length, refl, subst, arith}
 use Rattle.std.specs.Prelude.{nat_lt}
 use Rattle.std.proofs.lemmas.Bool.{cases_eq, and_parts, and_from, or_cases, or_left, or_right}
 use Rattle.std.proofs.lemmas.Bool.Decides.{nat_tests}
 use Rattle.flat_circuit.specs.Circuit.{Circuit}
-use Rattle.drawing_notes.specs.Paths.{leads, TellsLaunches}
+use Rattle.fixpoint_engine.specs.Waves.{Waves}
+use Rattle.drawing_notes.specs.Passing.{is_passable}
+use Rattle.drawing_notes.specs.Paths.{TellsLaunches, is_started, leads_in}
 use Rattle.drawing_notes.specs.Search.{Over, At_start, By_step, IsFound}
-use Rattle.drawing_notes.proofs.Launching.{AreFree, clocked, found_launched, launched_found}
 
 -- ---- one of the first numbers
 
@@ -118,34 +119,14 @@ module _ (step : ℕ → ℕ → Bool) (within : ℕ → Bool) where
 
 -- ---- what each clock launches
 
-module _ (c : Circuit) (looped : ℕ → Bool) where
-  abbrev free : ℕ → Bool
-  free i = nat_lt i (length c.nets) && not (looped i)
-
-  free_below : (i : ℕ) → free i ≡ true → i < length c.nets
-  free_below i is = let below = (and_parts (nat_lt i (length c.nets)) (not (looped i)) is).0 in grind (arith, nat_tests)
-
-  not_looped : (b : Bool) → not b ≡ true → b ≡ false
-  not_looped true is = absurd cc
-  not_looped false is = refl
-
-  pub are_free : AreFree c looped free
-  are_free = record {
-    none_looped = λ i is. not_looped (looped i) (and_parts (nat_lt i (length c.nets)) (not (looped i)) is).1;
-    all = λ i below unlooped. and_from (nat_lt i (length c.nets)) (not (looped i)) (grind (arith, nat_tests)) (ap not unlooped);
-  }
-
-  abbrev start : ℕ → ℕ → Bool
-  start clock = clocked c looped free are_free clock
-
-  found : (clock : ℕ) → IsFound (leads c) free (start clock) (found_of (leads c) free (start clock) (length c.nets))
-  found clock = are_found (leads c) free (start clock) (length c.nets) (λ i is. free_below i (and_parts (free i) _ is).0) free_below
+module _ (c : Circuit) (looped : ℕ → Bool) (ws : Waves) where
+  net_below : (i : ℕ) → is_passable c looped ws i ≡ true → i < length c.nets
+  net_below i is = let below = (and_parts (nat_lt i (length c.nets)) _ is).0 in grind (arith, nat_tests)
 
   abbrev pub launched_in : ℕ → ℕ → Bool
-  launched_in clock = found_of (leads c) free (start clock) (length c.nets)
+  launched_in clock = found_of (leads_in c ws) (is_passable c looped ws) (is_started c looped ws clock) (length c.nets)
 
-  pub launched_tells : TellsLaunches c looped launched_in
-  launched_tells clock net = (
-    λ is. found_launched c looped free are_free clock (λ i. refl) ((found clock net).0 is),
-    λ by. (found clock net).1 (launched_found c looped free are_free clock by.storage by.instance by.is by.clocked (start clock) (λ i. refl) by.leads),
-  )
+  pub launched_tells : TellsLaunches c looped ws launched_in
+  launched_tells clock =
+      are_found (leads_in c ws) (is_passable c looped ws) (is_started c looped ws clock) (length c.nets)
+      (λ i is. net_below i (and_parts (is_passable c looped ws i) _ is).0) net_below

@@ -68,6 +68,21 @@ instance path kind limits pins (Some i) =
       place = record { line = 4; col = 1 };
     }
 
+-- a buffer of this net, with a rise delay of 4 ticks at most, a fall delay of 5, and a complement at its output
+abbrev pub split_inverter : Pin → ℕ → Instance
+split_inverter pin out = record {
+  path = codes "b1";
+  bit = 0;
+  kind = Buf;
+  delay = record { min = 1; max = 5 };
+  split = Some (record { rise = record { min = 1; max = 4 }; fall = record { min = 1; max = 5 } });
+  limits = Unlimited;
+  pins = pin ∷ [];
+  out = Some (OnNet out);
+  out_inverted = true;
+  place = record { line = 4; col = 1 };
+}
+
 abbrev pub three : List Instance → Option ℕ → Option ℕ → Option ℕ → Circuit
 three js a b c = record {
   header = header;
@@ -149,15 +164,24 @@ with_another = (refl, refl, refl, refl, refl)
 abbrev latch : Pin → Pin → Instance
 latch enable input = instance (codes "r1") Latch Unlimited (enable ∷ input ∷ []) (Some 2)
 
-at_either_edge : (unchecked (beside (latch (on 0) (on 1)) SetupHold (on 0) (on 1)) ≡ [])
-    × (unchecked (beside (latch (on 0) (on 1)) SetupHold (turned 0) (on 1)) ≡ [])
+where_it_closes : (unchecked (beside (latch (on 0) (on 1)) SetupHold (turned 0) (on 1)) ≡ [])
     × (unchecked (beside (latch (turned 0) (on 1)) SetupHold (on 0) (on 1)) ≡ [])
-at_either_edge = (refl, refl, refl)
+where_it_closes = (refl, refl)
+
+from_edge_to_edge : (unchecked (beside (latch (on 0) (on 1)) RiseFall (on 0) (on 1)) ≡ [])
+    × (unchecked (beside (latch (on 0) (on 1)) RiseFall (turned 0) (turned 1)) ≡ [])
+from_edge_to_edge = (refl, refl)
+
+where_it_opens : (unchecked (beside (latch (on 0) (on 1)) SetupHold (on 0) (on 1)) ≡ of_b)
+    × (unchecked (beside (latch (turned 0) (on 1)) SetupHold (turned 0) (on 1)) ≡ of_b)
+unfolding digits unchecked_line
+where_it_opens = (refl, refl)
 
 of_another_enable : (unchecked (beside (latch (on 0) (on 1)) SetupHold (turned 1) (on 1)) ≡ of_b)
     × (unchecked (beside (latch (on 0) (on 1)) SetupHold (turned 0) (on 0)) ≡ of_b)
+    × (unchecked (beside (latch (on 0) (on 1)) RiseFall (on 1) (on 1)) ≡ of_b)
 unfolding digits unchecked_line
-of_another_enable = (refl, refl)
+of_another_enable = (refl, refl, refl)
 
 of_a_constant : unchecked (beside (register (on 0) high) SetupHold (on 0) (on 1)) ≡ []
 of_a_constant = refl

@@ -9,7 +9,8 @@ use Rattle.drawing_tree.specs.Expression.{Expression, Number, Param, Binary}
 use Rattle.drawing_tree.specs.declared.expr.Op.TheVariants.{Sub}
 use Rattle.drawing_tree.specs.Tree.{Range, Item, Zero, One, Named, Term, Connection, Use, Statement, If, For, Statements, nil, cons, else_, Formal, Macro, Drawing}
 use Rattle.macro_expander.specs.Macros.{given_to, inside_of}
-use Rattle.drawing_notes.specs.declared.spread.Spread.{Spread}
+use Rattle.drawing_notes.specs.declared.spread.Finding.{Finding}
+use Rattle.drawing_notes.specs.declared.spread.Finding.TheVariants.{Spread as ASpread, Loop}
 use Rattle.drawing_notes.specs.Spreads.{spreading_at, spreads}
 
 -- ---- drawings
@@ -86,8 +87,12 @@ drawn macros body = record {
 abbrev alone : Statement → Drawing
 alone s = drawn [] (cons s nil)
 
-abbrev spread : ℕ → List ℕ → ℕ → Spread
-spread col text width = record { place = at col; name = text; width = width }
+abbrev spread : ℕ → List ℕ → ℕ → Finding
+spread col text width = ASpread (record { place = at col; name = text; width = width })
+
+-- the FOR at a column
+abbrev loop : ℕ → Bool → Finding
+loop col has_turn = Loop (record { place = at col; has_turn = has_turn })
 
 -- ---- one connection
 
@@ -245,7 +250,7 @@ each_turn :
     spreads (drawn (simple ∷ []) (cons (For (codes "i") (number 1) (number 2)
     (cons (buffer (name 7 (codes "A") None)) (cons (used (codes "u") (codes "SIMPLE") [] []) nil))
     (at 1)) nil))
-    ≡ spread 7 (codes "A") 4 ∷ spread 20 (codes "u#1/C") 4
+    ≡ loop 1 true ∷ spread 7 (codes "A") 4 ∷ spread 20 (codes "u#1/C") 4
     ∷ spread 7 (codes "A") 4 ∷ spread 20 (codes "u#2/C") 4 ∷ []
 unfolding digits spreads spreading_at given_to inside_of
 each_turn = refl
@@ -265,7 +270,7 @@ outer = record {
 macro_in_a_macro :
     spreads (drawn (simple ∷ outer ∷ []) (cons (For (codes "j") (number 2) (number 2)
     (cons (used (codes "u") (codes "OUTER") [] []) nil) (at 1)) nil))
-    ≡ spread 20 (codes "u#2/v#1/C") 4 ∷ []
+    ≡ loop 1 true ∷ loop 1 true ∷ spread 20 (codes "u#2/v#1/C") 4 ∷ []
 unfolding digits spreads spreading_at given_to inside_of
 macro_in_a_macro = refl
 
@@ -287,6 +292,6 @@ no_choice = refl
 
 no_turn :
     spreads (alone (For (codes "i") (number 2) (number 1)
-    (cons (buffer (name 7 (codes "A") None)) nil) (at 1))) ≡ []
+    (cons (buffer (name 7 (codes "A") None)) nil) (at 1))) ≡ loop 1 false ∷ []
 unfolding spreads spreading_at
 no_turn = refl

@@ -20,11 +20,13 @@ use Rattle.flat_circuit.specs.declared.net.Net.{Net}
 use Rattle.flat_circuit.specs.Circuit.{Circuit}
 use Rattle.flat_circuit.proofs.RunTables.{limits_of}
 use Rattle.fixpoint_engine.specs.Settled.{marked_in}
+use Rattle.fixpoint_engine.specs.Waves.{Waves}
 use Rattle.timing_analysis.specs.Case.{Case}
 use Rattle.drawing_notes.specs.Lines.{Lines, Adds}
-use Rattle.drawing_notes.specs.declared.spread.Spread.{Spread}
+use Rattle.drawing_notes.specs.declared.spread.Finding.{Finding}
+use Rattle.drawing_notes.specs.declared.spread.Finding.TheVariants.{Spread as ASpread, Loop}
 use Rattle.drawing_notes.specs.declared.cases.SoFar.{SoFar}
-use Rattle.drawing_notes.specs.Common.{common, common_line, greatest_skew, skew_at}
+use Rattle.drawing_notes.specs.Common.{common, common_line, common_ticks}
 use Rattle.drawing_notes.specs.SoFar.{HoldsOf}
 use Rattle.drawing_notes.specs.Spread.{spread, spread_line}
 use Rattle.drawing_notes.specs.Unclocked.{AreActs, is_active, unclocked, unclocked_line}
@@ -135,10 +137,13 @@ nets_of_a_case = refl
 
 -- ---- SPREAD
 
-abbrev spread_of : List ℕ → Spread
-spread_of name = record { place = record { line = 4; col = 7 }; name = name; width = 4 }
+abbrev spread_of : List ℕ → Finding
+spread_of name = ASpread (record { place = record { line = 4; col = 7 }; name = name; width = 4 })
 
-has_another_bit : spread (of []) (spread_of (codes "B") ∷ spread_of (codes "A") ∷ [])
+abbrev a_loop : Finding
+a_loop = Loop (record { place = record { line = 4; col = 1 }; has_turn = true })
+
+has_another_bit : spread (of []) (a_loop ∷ spread_of (codes "B") ∷ spread_of (codes "A") ∷ [])
     ≡ codes "NOTE SPREAD 4:7 B WIDTH 4\n" ∷ []
 unfolding digits spread_line
 has_another_bit = refl
@@ -156,11 +161,19 @@ abbrev skewed_cases : List Case
 skewed_cases = case 1 (wave (Zero ∷ Zero ∷ R ∷ One ∷ []) 1) ∷ case 2 (wave (Zero ∷ Zero ∷ R ∷ One ∷ []) 2) ∷ []
 
 -- only A has a skew, and the greatest counts
-skew_of_a_clock : common checked both (greatest_skew skewed_cases) ≡ codes "NOTE COMMON c1<0> A<0> TICKS 2\n" ∷ []
+skew_of_a_clock : common checked (common_ticks checked (λ ws. both) skewed_cases) ≡ codes "NOTE COMMON c1<0> A<0> TICKS 2\n" ∷ []
 unfolding digits common_line
 skew_of_a_clock = refl
 
-not_launched : common checked (λ clock i. false) (greatest_skew skewed_cases) ≡ []
+-- of the cases in which it launches
+abbrev in_the_first : Waves → ℕ → ℕ → Bool
+in_the_first ws clock i = both clock i && ((ws 0).skew == 1)
+
+skew_of_that_case : common checked (common_ticks checked in_the_first skewed_cases) ≡ codes "NOTE COMMON c1<0> A<0> TICKS 1\n" ∷ []
+unfolding digits common_line
+skew_of_that_case = refl
+
+not_launched : common checked (common_ticks checked (λ ws clock i. false) skewed_cases) ≡ []
 not_launched = refl
 
 -- ---- what the cases so far tell
@@ -200,29 +213,7 @@ one_is_added : Adds nothing one_note (unknown registers two_cases)
 unfolding digits unknown_line
 one_is_added = record { bytes = refl; count = refl }
 
-skew_of_each : (i : ℕ) → skew_at (2 ∷ 0 ∷ 0 ∷ []) i ≡ greatest_skew two_cases i
-skew_of_each zero = refl
-skew_of_each (suc zero) = refl
-skew_of_each (suc (suc zero)) = refl
-skew_of_each (suc (suc (suc i))) = refl
-
-all_is_told : (s : SoFar) → s.acts.items ≡ true ∷ false ∷ [] → s.skews.items ≡ 2 ∷ 0 ∷ 0 ∷ [] → s.unknown ≡ one_note → HoldsOf s registers two_cases
-all_is_told s marks_are skews_are notes_are = record {
-  each_instance = ap length marks_are;
-  each_net = ap length skews_are;
-  acts = subst (AreActs registers two_cases) (sym marks_are) acts_in_the_second;
-  skews = λ i. ap (λ (xs : List ℕ). skew_at xs i) skews_are ∙ skew_of_each i;
-  unknown_notes = subst (λ (t : Lines). Adds nothing t (unknown registers two_cases))
-      (sym notes_are) one_is_added;
-}
-
 module _ (s : SoFar) (holds : HoldsOf s registers two_cases) where
-  never_the_last_skew : s.skews.items ≡ 1 ∷ 0 ∷ 0 ∷ [] → ⊥
-  never_the_last_skew skews_are = let no : 1 ≡ 2 = sym (ap (λ (xs : List ℕ). skew_at xs 0) skews_are) ∙ holds.skews 0 in absurd (omega (arith, no))
-
-  never_a_net_less : s.skews.items ≡ 2 ∷ 0 ∷ [] → ⊥
-  never_a_net_less skews_are = let no : 2 ≡ 3 = sym (ap length skews_are) ∙ holds.each_net in absurd (omega (arith, no))
-
   never_without_its_note : s.unknown ≡ nothing → ⊥
   never_without_its_note none = let no : 0 ≡ 1 =
       sym (ap (λ (t : Lines). t.count) none)

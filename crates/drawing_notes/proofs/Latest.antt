@@ -1,30 +1,18 @@
--- The latest of what comes at some pins.
-use Rattle.std.proofs.Common.{◌≡◌, ℕ, ◌<◌, ◌≤◌, ◌==◌, ◌⊎◌, inl, inr, Bool, true, false, cond, ◌&&◌, List, [], ◌∷◌, ap, sym, subst, refl, ◌∙◌, arith, Option, Some, None}
-use Rattle.std.specs.Prelude.{nat_lt, fold}
-use Rattle.std.specs.List.{list_any}
-use Rattle.std.proofs.lemmas.Bool.{eqb-true, eq-eqb, or_cases, or_left, or_right, and_parts}
+-- The latest of what comes: of two, of none, and after some ticks more.
+use Rattle.std.proofs.Common.{◌≡◌, ℕ, ◌+◌, ◌<◌, ◌≤◌, ◌==◌, ◌⊎◌, inl, inr, Bool, true, false, cond, ◌&&◌, ap, sym, subst, refl, ◌∙◌, arith, Option, Some, None}
+use Rattle.std.specs.Prelude.{nat_lt}
+use Rattle.std.specs.Option.{option_map}
+use Rattle.std.proofs.lemmas.Bool.{eqb-true, or_cases, and_parts}
 use Rattle.std.proofs.lemmas.Bool.Decides.{nat_tests}
-use Rattle.vector_names.specs.declared.bits.Target.{Target}
-use Rattle.vector_names.specs.declared.bits.Target.TheVariants.{Net as OnNet, Constant}
-use Rattle.flat_circuit.specs.declared.instance.Pin.{Pin}
-use Rattle.flat_circuit.specs.Instances.{is_on}
-use Rattle.flat_circuit.specs.Circuit.{Circuit}
 use Rattle.drawing_notes.specs.declared.launched.Arrival.{Arrival}
-use Rattle.drawing_notes.specs.Arrivals.{at_pin, is_later, later, latest_at}
-use Rattle.drawing_notes.specs.Pins.{target_net}
+use Rattle.drawing_notes.specs.Arrivals.{delayed, is_later, later}
+use Rattle.drawing_notes.specs.Paths.{AreLatest, IsLatest}
 
 -- So many ticks from this storage are not after an arrival: they are fewer, or as many and from no earlier storage.
 abbrev pub NotAfter : ℕ → ℕ → Arrival → Type 0
 NotAfter storage ticks a = (ticks < a.ticks) ⊎ ((ticks ≡ a.ticks) × (a.storage ≤ storage))
 
-abbrev pub Beats : Option Arrival → Arrival → Type 0
-Beats None a = ⊥
-Beats (Some m) a = NotAfter a.storage a.ticks m
-
-pub not_after_same : (a : Arrival) → NotAfter a.storage a.ticks a
-not_after_same a = inr (refl, omega arith)
-
-pub not_after_then : (storage ticks : ℕ) (a b : Arrival) → NotAfter storage ticks a → NotAfter a.storage a.ticks b → NotAfter storage ticks b
+not_after_then : (storage ticks : ℕ) (a b : Arrival) → NotAfter storage ticks a → NotAfter a.storage a.ticks b → NotAfter storage ticks b
 not_after_then storage ticks a b first second = elim first [
   | inl less ↦ elim second [
     | inl more ↦ inl (omega (arith, less, more))
@@ -36,113 +24,79 @@ not_after_then storage ticks a b first second = elim first [
   ]
 ]
 
-later_cases : (a b : Arrival) (t : Bool) → is_later a b ≡ t →
-    Beats (cond t (Some b) (Some a)) a × Beats (cond t (Some b) (Some a)) b
-later_cases a b true is = (behind, not_after_same b)
-  where
-    behind : NotAfter a.storage a.ticks b
-    behind = elim (or_cases (nat_lt a.ticks b.ticks) ((b.ticks == a.ticks) && nat_lt b.storage a.storage) is) [
-      | inl less ↦ inl (grind (arith, nat_tests))
-      | inr same ↦
-          let both = and_parts (b.ticks == a.ticks) (nat_lt b.storage a.storage) same in
-          let ticks = eqb-true b.ticks a.ticks both.0 in
-          let before : b.storage < a.storage = grind (arith, nat_tests) in
-          inr (sym ticks, omega (arith, before))
-    ]
-later_cases a b false is = (not_after_same a, before)
-  where
-    before : NotAfter b.storage b.ticks a
-    before = grind (arith, nat_tests)
-
--- both of two are beaten by the later one
-later_beats : (first second : Option Arrival) (a : Arrival) → (first ≡ Some a) ⊎ (second ≡ Some a) → Beats (later first second) a
-later_beats None None a either = elim either [ inl is ↦ absurd cc | inr is ↦ absurd cc ]
-later_beats None (Some b) a either = elim either [
-  | inl is ↦ absurd cc
-  | inr is ↦ let same : b ≡ a = cc in subst (λ x. NotAfter x.storage x.ticks b) same (not_after_same b)
+behind : (a b : Arrival) → is_later a b ≡ true → NotAfter a.storage a.ticks b
+behind a b is = elim (or_cases (nat_lt a.ticks b.ticks) ((b.ticks == a.ticks) && nat_lt b.storage a.storage) is) [
+  | inl less ↦ inl (grind (arith, nat_tests))
+  | inr same ↦
+      let both = and_parts (b.ticks == a.ticks) (nat_lt b.storage a.storage) same in
+      let ticks = eqb-true b.ticks a.ticks both.0 in
+      let before : b.storage < a.storage = grind (arith, nat_tests) in
+      inr (sym ticks, omega (arith, before))
 ]
-later_beats (Some b) None a either = elim either [
-  | inl is ↦ let same : b ≡ a = cc in subst (λ x. NotAfter x.storage x.ticks b) same (not_after_same b)
-  | inr is ↦ absurd cc
+
+ahead : (a b : Arrival) → is_later a b ≡ false → NotAfter b.storage b.ticks a
+ahead a b is = grind (arith, nat_tests)
+
+-- ---- of two
+
+module _ (P Q R : ℕ → ℕ → Type 0) (split : (s t : ℕ) → R s t → P s t ⊎ Q s t) (first : (s t : ℕ) → P s t → R s t)
+    (second : (s t : ℕ) → Q s t → R s t) where
+  second_only : (b : Option Arrival) → AreLatest P None → AreLatest Q b → AreLatest R b
+  second_only None none is = λ s t r. elim (split s t r) [ inl p ↦ none s t p | inr q ↦ is s t q ]
+  second_only (Some b) none is = record {
+    comes = second b.storage b.ticks is.comes;
+    latest = λ s t r. elim (split s t r) [ inl p ↦ absurd (none s t p) | inr q ↦ is.latest s t q ];
+  }
+
+  first_only : (a : Arrival) → IsLatest P a → AreLatest Q None → IsLatest R a
+  first_only a is none = record {
+    comes = first a.storage a.ticks is.comes;
+    latest = λ s t r. elim (split s t r) [ inl p ↦ is.latest s t p | inr q ↦ absurd (none s t q) ];
+  }
+
+  one_of_two : (a b : Arrival) → IsLatest P a → IsLatest Q b → (t : Bool) → is_later a b ≡ t → AreLatest R (cond t (Some b) (Some a))
+  one_of_two a b is other true e = record {
+    comes = second b.storage b.ticks other.comes;
+    latest = λ s t r. elim (split s t r) [
+      | inl p ↦ not_after_then s t a b (is.latest s t p) (behind a b e)
+      | inr q ↦ other.latest s t q
+    ];
+  }
+  one_of_two a b is other false e = record {
+    comes = first a.storage a.ticks is.comes;
+    latest = λ s t r. elim (split s t r) [
+      | inl p ↦ is.latest s t p
+      | inr q ↦ not_after_then s t b a (other.latest s t q) (ahead a b e)
+    ];
+  }
+
+  pub latest_of_two : (a b : Option Arrival) → AreLatest P a → AreLatest Q b → AreLatest R (later a b)
+  latest_of_two None b none is = second_only b none is
+  latest_of_two (Some a) None is none = first_only a is none
+  latest_of_two (Some a) (Some b) is other = one_of_two a b is other (is_later a b) refl
+
+-- ---- the same
+
+module _ (P Q : ℕ → ℕ → Type 0) (there : (s t : ℕ) → P s t → Q s t) (back : (s t : ℕ) → Q s t → P s t) where
+  pub latest_same : (o : Option Arrival) → AreLatest P o → AreLatest Q o
+  latest_same None none = λ s t q. none s t (back s t q)
+  latest_same (Some a) is = record { comes = there a.storage a.ticks is.comes; latest = λ s t q. is.latest s t (back s t q) }
+
+-- ---- after some ticks more
+
+shifted : (storage ticks more : ℕ) (a : Arrival) → NotAfter storage ticks a → NotAfter storage (ticks + more) (delayed more a)
+shifted storage ticks more a first = elim first [
+  | inl less ↦ inl (omega (arith, less))
+  | inr equal ↦ inr ((let e = equal.0 in omega (arith, e)), equal.1)
 ]
-later_beats (Some b) (Some d) a either =
-    let cases = later_cases b d (is_later b d) refl in
-    elim either [
-      | inl is ↦ let same : b ≡ a = cc in subst (Beats (later (Some b) (Some d))) same cases.0
-      | inr is ↦ let same : d ≡ a = cc in subst (Beats (later (Some b) (Some d))) same cases.1
-    ]
 
-later_is : (first second : Option Arrival) (m : Arrival) → later first second ≡ Some m → (first ≡ Some m) ⊎ (second ≡ Some m)
-later_is None second m is = inr is
-later_is (Some a) None m is = inl is
-later_is (Some a) (Some b) m is = by (is_later a b) is
-  where
-    by : (t : Bool) → cond t (Some b) (Some a) ≡ Some m → (Some a ≡ Some m) ⊎ (Some b ≡ Some m)
-    by true e = inr e
-    by false e = inl e
-
-beats_then : (o : Option Arrival) (a b : Arrival) → NotAfter a.storage a.ticks b → Beats o b → Beats o a
-beats_then None a b before beats = beats
-beats_then (Some m) a b before beats = not_after_then a.storage a.ticks b m before beats
-
--- what beats the later of two beats both
-beats_both : (o first second : Option Arrival) → ((a : Arrival) → later first second ≡ Some a → Beats o a) →
-    (a : Arrival) → (first ≡ Some a) ⊎ (second ≡ Some a) → Beats o a
-beats_both o first second all a either = by (later first second) refl (later_beats first second a either)
-  where
-    by : (m : Option Arrival) → later first second ≡ m → Beats m a → Beats o a
-    by None is beats = absurd beats
-    by (Some m) is beats = beats_then o a m beats (all m is)
-
-module _ (c : Circuit) (arrival : ℕ → Option Arrival) where
-  abbrev comes : Pin → Option Arrival
-  comes p = at_pin c arrival (target_net p.target)
-
-  abbrev latest_from : Option Arrival → List Pin → Option Arrival
-  latest_from acc pins = fold (λ (so_far : Option Arrival) (p : Pin). later so_far (comes p)) acc pins
-
-  on_pin : (t : Target) (net : ℕ) (a : Arrival) → is_on net t ≡ true → at_pin c arrival (Some net) ≡ Some a → at_pin c arrival (target_net t) ≡ Some a
-  on_pin (OnNet n) net a on is = ap (λ k. at_pin c arrival (Some k)) (eqb-true n net on) ∙ is
-  on_pin (Constant b) net a on is = absurd cc
-
-  first_beats : (pins : List Pin) (acc : Option Arrival) (a : Arrival) → acc ≡ Some a → Beats (latest_from acc pins) a
-  first_beats [] acc a is = subst (λ o. Beats o a) (sym is) (not_after_same a)
-  first_beats (p ∷ pins) acc a is =
-      beats_both (latest_from (later acc (comes p)) pins) acc (comes p) (λ m e. first_beats pins (later acc (comes p)) m e) a (inl is)
-
-  all_beats : (pins : List Pin) (acc : Option Arrival) (net : ℕ) (a : Arrival) → list_any (λ (p : Pin). is_on net p.target) pins ≡ true →
-      at_pin c arrival (Some net) ≡ Some a → Beats (latest_from acc pins) a
-  all_beats [] acc net a on is = absurd cc
-  all_beats (p ∷ pins) acc net a on is = elim (or_cases (is_on net p.target) (list_any (λ (q : Pin). is_on net q.target) pins) on) [
-    | inl here ↦
-        beats_both (latest_from (later acc (comes p)) pins) acc (comes p) (λ m e. first_beats pins (later acc (comes p)) m e) a
-        (inr (on_pin p.target net a here is))
-    | inr more ↦ all_beats pins (later acc (comes p)) net a more is
-  ]
-
-  -- the latest comes at one of the pins
-  pub record ComesAt (pins : List Pin) (m : Arrival) : Type 0 where
-    pub net : ℕ
-    pub on : list_any (λ (p : Pin). is_on net p.target) pins ≡ true
-    pub is : at_pin c arrival (Some net) ≡ Some m
-
-  from_pin : (t : Target) (pins : List Pin) (p : Pin) (m : Arrival) → p.target ≡ t → at_pin c arrival (target_net t) ≡ Some m → ComesAt (p ∷ pins) m
-  from_pin (OnNet n) pins p m at is = record { net = n; on = or_left _ _ (ap (is_on n) at ∙ eq-eqb n n refl); is = is }
-  from_pin (Constant b) pins p m at is = absurd cc
-
-  comes_from : (pins : List Pin) (acc : Option Arrival) (m : Arrival) → latest_from acc pins ≡ Some m → (acc ≡ Some m) ⊎ ComesAt pins m
-  comes_from [] acc m is = inl is
-  comes_from (p ∷ pins) acc m is = elim (comes_from pins (later acc (comes p)) m is) [
-    | inl first ↦ elim (later_is acc (comes p) m first) [
-      | inl before ↦ inl before
-      | inr here ↦ inr (from_pin p.target pins p m refl here)
-    ]
-    | inr at ↦ inr (record { net = at.net; on = or_right _ _ at.on; is = at.is })
-  ]
-
-  pub latest_beats : (pins : List Pin) (net : ℕ) (a : Arrival) → list_any (λ (p : Pin). is_on net p.target) pins ≡ true →
-      at_pin c arrival (Some net) ≡ Some a → Beats (latest_at c arrival pins) a
-  latest_beats pins net a on is = all_beats pins None net a on is
-
-  pub latest_comes : (pins : List Pin) (m : Arrival) → latest_at c arrival pins ≡ Some m → ComesAt pins m
-  latest_comes pins m is = elim (comes_from pins None m is) [ inl none ↦ absurd cc | inr at ↦ at ]
+module _ (P Q : ℕ → ℕ → Type 0) (more : ℕ) (there : (s t : ℕ) → P s t → Q s (t + more))
+    (back : (s t : ℕ) → Q s t → (u : ℕ) × (P s u) × (t ≡ u + more)) where
+  pub latest_delayed : (o : Option Arrival) → AreLatest P o → AreLatest Q (option_map (delayed more) o)
+  latest_delayed None none = λ s t q. let b = back s t q in none s b.0 b.1
+  latest_delayed (Some a) is = record {
+    comes = there a.storage a.ticks is.comes;
+    latest = λ s t q.
+        let b = back s t q in
+        subst (λ n. NotAfter s n (delayed more a)) (sym b.2) (shifted s b.0 more a (is.latest s b.0 b.1));
+  }

@@ -7,6 +7,7 @@ pub mod Bodies
 pub mod Over
 pub mod Whole
 mod ExamplesWaves
+mod ExamplesGates
 pub mod Stepped
 pub mod Scanning
 pub mod Acting
@@ -16,8 +17,6 @@ pub mod Clocking
 pub mod Doubting
 pub mod ByClock
 pub mod Naming
-pub mod Noting
-pub mod Unlooped
 pub mod Gathering
 pub mod Adding
 pub mod Anys
@@ -26,19 +25,27 @@ pub mod Closing
 pub mod Deciding
 pub mod ExamplesCircuit
 pub mod ExamplesPaths
+pub mod Firsts
+pub mod Gating
+pub mod Heeding
+pub mod Keeping
 pub mod Knowing
+pub mod Making
+pub mod Marking
 pub mod Latest
-pub mod Launching
 pub mod Mutual
+pub mod Numbers
 pub mod OneWay
 pub mod Opening
 pub mod Ordering
 pub mod Parting
 pub mod Placing
+pub mod Ranging
 pub mod Reaching
 pub mod Reading
 pub mod Seeing
 pub mod Settling
+pub mod Shutting
 pub mod Sizes
 pub mod Small
 pub mod Stepping
@@ -47,3 +54,12 @@ pub mod Written
 pub mod Examples
 pub mod Promised
 pub mod Reporting
+pub mod Drawing
+pub mod Loosing
+pub mod Driving
+pub mod Nearing
+pub mod Listing
+pub mod Valuing
+pub mod Noting
+pub mod Doubled
+pub mod Spotting

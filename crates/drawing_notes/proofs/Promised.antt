@@ -9,9 +9,8 @@ use Rattle.program_call.proofs.Judgement.{IsOne}
 use Rattle.program_call.proofs.Outcomes.{HoldsOfReports, evaluated_has, evaluated_settles}
 use Rattle.program_call.proofs.Outcomes.{verdict_counts, verdict_settles}
 use Rattle.program_call.proofs.Speaking.{reporting_is_lawful, verdict_speaks}
-use Rattle.drawing_notes.specs.Paths.{Ways}
-use Rattle.drawing_notes.specs.Spreads.{spreads}
-use Rattle.drawing_notes.specs.Answer.{Noted, notes_of, notes_program, own_word}
+use Rattle.drawing_notes.specs.Ways.{Ways}
+use Rattle.drawing_notes.specs.Answer.{Noted, kept_of, notes_of, notes_program, own_word}
 use Rattle.drawing_notes.specs.Report.{note_lines, notes}
 use Rattle.drawing_notes.proofs.OneWay.{one_way}
 
@@ -19,16 +18,16 @@ use Rattle.drawing_notes.proofs.OneWay.{one_way}
 
 notes_are_one : IsOne notes_of
 notes_are_one d c base cases o o' bytes bytes' is is' =
-    let same : is.ways ≡ is'.ways = one_way c is.ways is'.ways is.are is'.are in (
-      is.outcome ∙ ap (λ (ways : Ways). verdict_of (length (notes ways (spreads d) c cases))) same
+    let same : is.ways ≡ is'.ways = one_way c cases is.ways is'.ways is.are is'.are in (
+      is.outcome ∙ ap (λ (ways : Ways). verdict_of (length (notes ways (kept_of d) c cases))) same
           ∙ sym is'.outcome,
-      is.text ∙ ap (λ (ways : Ways). note_lines d.version c (notes ways (spreads d) c cases)) same
+      is.text ∙ ap (λ (ways : Ways). note_lines d.version c (notes ways (kept_of d) c cases)) same
           ∙ sym is'.text,
     )
 
 notes_speak : HoldsOfReports (λ o. end_of o ≡ None) notes_of
 notes_speak d c base cases o bytes is =
-    ap end_of is.outcome ∙ verdict_speaks (length (notes is.ways (spreads d) c cases))
+    ap end_of is.outcome ∙ verdict_speaks (length (notes is.ways (kept_of d) c cases))
 
 pub notes_are_lawful : IsLawful notes_program
 notes_are_lawful = reporting_is_lawful own_word notes_of notes_speak notes_are_one
@@ -40,11 +39,11 @@ is_given text o bytes =
     evaluated_has (λ p. may_count p ≡ true) (λ place last. refl) (λ r. refl) notes_of None text o
     bytes
     (λ d c base cases p bs is. ap may_count is.outcome
-    ∙ verdict_counts (length (notes is.ways (spreads d) c cases)))
+    ∙ verdict_counts (length (notes is.ways (kept_of d) c cases)))
 
 pub is_settled : (text : List ℕ) (o : Outcome) (bytes : List ℕ) → Noted text o bytes → SettlesLoopless text o
 is_settled text o bytes =
     evaluated_settles notes_of text o bytes
     (λ d c base cases p bs is place last still.
-    verdict_settles (length (notes is.ways (spreads d) c cases)) place last
+    verdict_settles (length (notes is.ways (kept_of d) c cases)) place last
     (sym is.outcome ∙ still))

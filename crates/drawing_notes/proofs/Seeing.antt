@@ -13,7 +13,7 @@ use Rattle.flat_circuit.specs.declared.instance.Instance.{Instance}
 use Rattle.flat_circuit.specs.Circuit.{Circuit}
 use Rattle.drawing_notes.specs.declared.unchecked.Sampling.{Sampling}
 use Rattle.drawing_notes.specs.Pins.{is_latch}
-use Rattle.drawing_notes.specs.Unchecked.{AreSeen, is_among, is_checked, is_it, is_same, sampling_of, seen_by, sees, turned}
+use Rattle.drawing_notes.specs.Unchecked.{AreSeen, is_among, is_checked, is_it, is_same, is_watched, sampling_of, seen_by, sees}
 use Rattle.drawing_notes.proofs.Anys.{any_more, kept_same}
 
 sees_by : (s : Sampling) (j : Instance) (b : Bool) → checks_points j.kind ≡ b → sees s j ≡ is_it s (cond b (sampling_of j) None)
@@ -32,12 +32,14 @@ puts_none seen s = sym (or-false (list_any (is_same s) seen))
 
 same_is : (s t : Sampling) → is_same s t ≡ true → s ≡ t
 same_is s t is =
-    let both = and_parts (s.clock == t.clock) (beq s.inverted t.inverted && (s.input == t.input)) is in
-    let others = and_parts (beq s.inverted t.inverted) (s.input == t.input) both.1 in
+    let both = and_parts (s.clock == t.clock) (beq s.inverted t.inverted && ((s.input == t.input) && beq s.across t.across)) is in
+    let others = and_parts (beq s.inverted t.inverted) ((s.input == t.input) && beq s.across t.across) both.1 in
+    let last = and_parts (s.input == t.input) (beq s.across t.across) others.1 in
     let clock = eqb-true s.clock t.clock both.0 in
     let inverted = (booleans_Decides s.inverted t.inverted).0 others.0 in
-    let input = eqb-true s.input t.input others.1 in
-    λ k. record { clock = clock k; inverted = inverted k; input = input k }
+    let input = eqb-true s.input t.input last.0 in
+    let across = (booleans_Decides s.across t.across).0 last.1 in
+    λ k. record { clock = clock k; inverted = inverted k; input = input k; across = across k }
 
 pub puts_key : (eq : Sampling → Sampling → Bool) → ((a b : Sampling) → eq a b ≡ is_same a b) → (old new : List Sampling) (k : Sampling) →
     new ≡ insert_key eq old k → Puts (Some k) old new
@@ -63,4 +65,4 @@ seen_more js k old new before puts s =
 
 pub among_checked : (c : Circuit) (seen : List Sampling) → AreSeen c.instances seen → (o : Option Sampling) (j : Instance) → is_among seen j.kind o ≡ is_checked c j.kind o
 among_checked c seen are None j = refl
-among_checked c seen are (Some s) j = λ k. are s k || (is_latch j.kind && are (turned s) k)
+among_checked c seen are (Some s) j = λ k. is_watched (λ t. are t k) (is_latch j.kind) s

@@ -50,7 +50,7 @@ hears_all kind is net place (p ∷ ps) =
 
 -- ---- what leads is what passes on and hears
 
-abbrev passes_in : Option Instance → Bool
+abbrev pub passes_in : Option Instance → Bool
 passes_in None = false
 passes_in (Some j) = passes j.kind
 
@@ -60,7 +60,7 @@ by_passing kind true net ps is = ap (λ b. passes kind && b) (sym (hears_all kin
 by_passing kind false net ps is =
     ap (λ b. b && list_any (λ (p : Pin). is_on net p.target) ps) is ∙ ap (λ b. b && hears_from (λ j. net == j) kind 0 ps) (sym is)
 
-passes_hears : (net : ℕ) (d : Option Instance) → passes_on net d ≡ (passes_in d && hears_in (λ j. net == j) d)
+pub passes_hears : (net : ℕ) (d : Option Instance) → passes_on net d ≡ (passes_in d && hears_in (λ j. net == j) d)
 passes_hears net None = refl
 passes_hears net (Some j) = by_passing j.kind (passes j.kind) net j.pins refl
 

@@ -14,7 +14,7 @@ use Rattle.macro_expander.specs.Macros.{given_to, inside_of, macro_of as first_c
 use Rattle.macro_expander.specs.Library.{macros_in, setting_in}
 use Rattle.macro_expander.specs.Numbered.{IsRange}
 use Rattle.macro_expander.proofs.Ranges.{shapes_are}
-use Rattle.drawing_notes.specs.declared.spread.Spread.{Spread}
+use Rattle.drawing_notes.specs.declared.spread.Finding.{Finding}
 use Rattle.drawing_notes.specs.Spreads.{body_scope, in_formal, in_macro, in_macro_with, in_use_of, inside_at, spreading_at}
 use Rattle.drawing_notes.specs.Walk.{in_all, in_one, seen}
 
@@ -25,13 +25,13 @@ both_give (Ok a) next b e = (a, refl, e)
 both_give (Err kind) next b e = absurd (cc)
 
 module _ (l : Library) (levels : ℕ) (u : UseStatement) (scope : numbered_scope.Scope) where
-  abbrev whole : List Spread
+  abbrev whole : List Finding
   whole = in_one l levels (Use u) scope
 
-  abbrev by_kind : Option Kind → List Spread
+  abbrev by_kind : Option Kind → List Finding
   by_kind k = in_use_of k (setting_in l) (spreading_at (setting_in l) levels) u (seen scope)
 
-  abbrev by_macro : Option Macro → List Spread
+  abbrev by_macro : Option Macro → List Finding
   by_macro m = in_macro (setting_in l) (spreading_at (setting_in l) levels) m u (seen scope)
 
   module _ (m : Option Macro) (unknown : let none : Option Kind = None in none ≡ kind_of u.kind)
@@ -44,7 +44,7 @@ module _ (l : Library) (levels : ℕ) (u : UseStatement) (scope : numbered_scope
     abbrev the_inside : Judged Inside
     the_inside = inside_at l.consts m (seen scope) u
 
-    abbrev with_inside : Judged Inside → List Spread
+    abbrev with_inside : Judged Inside → List Finding
     with_inside j = in_macro_with (spreading_at (setting_in l) levels) m (seen scope) u j
 
     pub refused_use : let none : Option Inside = None in none ≡ result_ok the_inside → by_macro (Some m) ≡ []
@@ -65,7 +65,7 @@ module _ (l : Library) (levels : ℕ) (u : UseStatement) (scope : numbered_scope
           let given = both_give (given_to m scope.env u) (inside_of l.consts m) inside is_ok in
           shapes_are l.consts m given.0 inside given.2
 
-      abbrev over_formals : List Spread
+      abbrev over_formals : List Finding
       over_formals = flat_map (in_formal (seen scope)) (zip inside.ins u.ins)
 
       pub no_body : levels ≡ 0 → by_macro (Some m) ≡ over_formals
@@ -83,9 +83,9 @@ module _ (l : Library) (levels : ℕ) (u : UseStatement) (scope : numbered_scope
 
       -- what is found over the formals, and then in the body
       pub used_macro : whole ≡ by_macro (Some m) → levels ≢ 0 → (inner : numbered_scope.Scope) →
-          seen inner ≡ body_scope (seen scope) u.label inside → (found over new : List Spread) → over ≡ found ++ over_formals →
+          seen inner ≡ body_scope (seen scope) u.label inside → (found over new : List Finding) → over ≡ found ++ over_formals →
           new ≡ over ++ in_all l (levels - 1) m.body inner → new ≡ found ++ whole
       used_macro is_macro deep inner same found over new first second =
-          second ∙ ap (λ (s : List Spread). s ++ in_all l (levels - 1) m.body inner) first
+          second ∙ ap (λ (s : List Finding). s ++ in_all l (levels - 1) m.body inner) first
           ∙ append_assoc found over_formals (in_all l (levels - 1) m.body inner)
-          ∙ ap (λ (s : List Spread). found ++ s) (sym (is_macro ∙ with_body deep inner same))
+          ∙ ap (λ (s : List Finding). found ++ s) (sym (is_macro ∙ with_body deep inner same))

@@ -12,7 +12,7 @@ use Rattle.macro_expander.specs.declared.scope.Scope as numbered_scope
 use Rattle.macro_expander.specs.Terms.{valued}
 use Rattle.macro_expander.specs.Library.{setting_in}
 use Rattle.macro_expander.proofs.Gathered.{next_of}
-use Rattle.drawing_notes.specs.declared.spread.Spread.{Spread}
+use Rattle.drawing_notes.specs.declared.spread.Finding.{Finding}
 use Rattle.drawing_notes.specs.Spreads.{if_chosen, in_otherwise, spreading_at}
 use Rattle.drawing_notes.specs.Walk.{in_all, in_one, seen}
 
@@ -24,7 +24,7 @@ split all i x h is = ap listed (next_of statement_of all i x h is)
 
 module _ (l : Library) (levels : ℕ) (scope : numbered_scope.Scope) where
   pub one_more : (all : List Stmt) (i : ℕ) (x : Stmt) → i < length all → x ≡ get_or all i x →
-      (found new want : List Spread) → found ++ in_all l levels (statements_of (drop i all)) scope ≡ want →
+      (found new want : List Finding) → found ++ in_all l levels (statements_of (drop i all)) scope ≡ want →
       new ≡ found ++ in_one l levels (statement_of x) scope →
       new ++ in_all l levels (statements_of (drop (i + 1) all)) scope ≡ want
   one_more all i x h is found new want so_far more =
@@ -34,7 +34,7 @@ module _ (l : Library) (levels : ℕ) (scope : numbered_scope.Scope) where
 
   -- ---- IF
 
-  abbrev other : IfStmt → List Spread
+  abbrev other : IfStmt → List Finding
   other choice = in_otherwise (setting_in l) (spreading_at (setting_in l) levels) (else_of choice.no) (seen scope)
 
   if_is : (choice : IfStmt) → in_one l levels (if_of choice) scope

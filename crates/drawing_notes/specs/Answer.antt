@@ -8,16 +8,19 @@ use Rattle.program_call.specs.Answer.{Evaluated, Reporting}
 use Rattle.program_call.specs.Wordless.{reporting_program}
 use Rattle.drawing_notes.specs.declared.reply.Kept.{Kept}
 use Rattle.drawing_notes.specs.Spreads.{spreads}
+use Rattle.drawing_notes.specs.Fors.{fors}
+use Rattle.drawing_notes.specs.CaseBits.{case_bits}
 use Rattle.drawing_notes.specs.Report.{AreNotes}
 
--- what the notes keep of a drawing: its version, and the names that it spreads
+-- what the notes keep of a drawing: its version, what is found where it is expanded, its FORs and
+-- its cases
 abbrev pub kept_of : Drawing → Kept
-kept_of d = record { version = d.version; spreads = spreads d }
+kept_of d =
+    record { version = d.version; found = spreads d; fors = fors d; cases = case_bits d }
 
--- the notes on the circuit of a drawing, on its settled cases and on the names that the drawing
--- spreads
+-- the notes on a drawing, on its circuit and on its settled cases
 abbrev pub notes_of : Drawing → Reporting
-notes_of d = AreNotes d.version (spreads d)
+notes_of d = AreNotes (kept_of d)
 
 -- What is answered on a text, with the circuit's own limit of rounds.
 abbrev pub Noted : List ℕ → Outcome → List ℕ → Type 0

@@ -1,11 +1,13 @@
 -- Checkers whose clock may be late as a whole, and which of them are launched by it.
-use Rattle.std.specs.Prelude.{◌≡◌, ◌↔◌, ℕ, ◌<◌, nat_lt, Bool, false, not, ◌&&◌, List, [], ◌∷◌, length, slice_get, if◌then◌else◌, Option, Some, None}
+use Rattle.std.specs.Prelude.{◌≡◌, ◌↔◌, ℕ, ◌<◌, nat_lt, Bool, false, ◌&&◌, List, [], ◌∷◌, length, slice_get, if◌then◌else◌, Option, Some, None}
 use Rattle.std.specs.List.{Contains}
 use Rattle.element_kinds.specs.Kinds.{checks_points}
 use Rattle.flat_circuit.specs.declared.instance.Instance.{Instance}
 use Rattle.flat_circuit.specs.Circuit.{Circuit}
 use Rattle.fixpoint_engine.specs.Settled.{marked_in}
 use Rattle.fixpoint_engine.specs.Worklist.{drives_in}
+use Rattle.fixpoint_engine.specs.Waves.{Waves}
+use Rattle.drawing_notes.specs.Passing.{is_passable}
 use Rattle.drawing_notes.specs.Paths.{TellsLaunches}
 use Rattle.drawing_notes.specs.Pins.{clock_of, input_of, pin_net}
 use Rattle.drawing_notes.specs.Search.{is_clocked_by}
@@ -47,21 +49,21 @@ abbrev pub launches_to : ℕ → Option Instance → ℕ → Bool
 launches_to clock None i = false
 launches_to clock (Some j) i = is_clocked_by clock (Some j) && drives_in j.out i
 
--- the nets that are on no loop
-pub record AreUnlooped (c : Circuit) (looped : ℕ → Bool) (set : List Bool) : Type 0 where
+-- the nets that pass something on
+pub record ArePassable (c : Circuit) (looped : ℕ → Bool) (ws : Waves) (set : List Bool) : Type 0 where
   pub each_net : length set ≡ length c.nets
-  pub are : (i : ℕ) → i < length c.nets → marked_in set i ≡ not (looped i)
+  pub are : (i : ℕ) → marked_in set i ≡ is_passable c looped ws i
 
 -- exactly what the clock launches was found
-abbrev pub IsLaunched : Circuit → (ℕ → Bool) → ℕ → List Bool → Type 0
-IsLaunched c looped clock marks =
-    (launched : ℕ → ℕ → Bool) → TellsLaunches c looped launched →
+abbrev pub IsLaunched : Circuit → (ℕ → Bool) → Waves → ℕ → List Bool → Type 0
+IsLaunched c looped ws clock marks =
+    (launched : ℕ → ℕ → Bool) → TellsLaunches c looped ws launched →
     (net : ℕ) → launched clock net ≡ marked_in marks net
 
 -- what the last search was for was found
-abbrev pub WasFound : Circuit → (ℕ → Bool) → Option ℕ → List Bool → Type 0
-WasFound c looped last marks =
-    (clock : ℕ) → last ≡ Some clock → IsLaunched c looped clock marks
+abbrev pub WasFound : Circuit → (ℕ → Bool) → Waves → Option ℕ → List Bool → Type 0
+WasFound c looped ws last marks =
+    (clock : ℕ) → last ≡ Some clock → IsLaunched c looped ws clock marks
 
 -- what the clock launches comes at the input
 abbrev pub is_common_by : (ℕ → ℕ → Bool) → Option Doubt → Bool

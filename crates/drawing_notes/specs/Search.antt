@@ -6,6 +6,8 @@ use Rattle.flat_circuit.specs.declared.instance.Instance.{Instance}
 use Rattle.flat_circuit.specs.Circuit.{Circuit, driver}
 use Rattle.fixpoint_engine.specs.Work.{is_on_any}
 use Rattle.fixpoint_engine.specs.Worklist.{drives_in}
+use Rattle.fixpoint_engine.specs.Waves.{Waves}
+use Rattle.drawing_notes.specs.Passing.{opens_on}
 use Rattle.drawing_notes.specs.Pins.{passes, is_storage, clock_of, pin_net, is_net}
 
 -- The nets at the start, and each other net of a set to which a step leads from one of these.
@@ -22,6 +24,11 @@ IsFound step within start found = (i : ℕ) → (found i ≡ true) ↔ Over step
 abbrev pub passes_to : Option Instance → ℕ → Bool
 passes_to None i = false
 passes_to (Some j) i = passes j.kind && drives_in j.out i
+
+-- what an instance drives, where it has an open pin on a net
+abbrev pub opens_to : Circuit → Waves → ℕ → Option Instance → ℕ → Bool
+opens_to c ws net None i = false
+opens_to c ws net (Some j) i = opens_on c ws net (Some j) && drives_in j.out i
 
 -- a gate or a change function has a pin on one of the nets
 abbrev pub passes_from : (ℕ → Bool) → Option Instance → Bool

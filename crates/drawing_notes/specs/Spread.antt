@@ -5,6 +5,8 @@ use Rattle.std.specs.List.{flat_map, list_any}
 use Rattle.std.specs.Str.{bytes_eq}
 use Rattle.flat_circuit.specs.declared.net.Net.{Net}
 use Rattle.flat_circuit.specs.Circuit.{Circuit}
+use Rattle.drawing_notes.specs.declared.spread.Finding.{Finding}
+use Rattle.drawing_notes.specs.declared.spread.Finding.TheVariants.{Spread as ASpread, Loop}
 use Rattle.drawing_notes.specs.declared.spread.Spread.{Spread}
 use Rattle.listing.specs.Text.{line}
 
@@ -21,12 +23,16 @@ spread_line s = line (
     ∷ s.name
     ∷ codes " WIDTH " ∷ decimal s.width ∷ [])
 
-abbrev pub spread_at : Circuit → Spread → List (List ℕ)
-spread_at c s = if has_other_bits c s.name then spread_line s ∷ [] else []
+abbrev pub spread_on : Circuit → Spread → List (List ℕ)
+spread_on c s = if has_other_bits c s.name then spread_line s ∷ [] else []
+
+abbrev pub spread_at : Circuit → Finding → List (List ℕ)
+spread_at c (ASpread s) = spread_on c s
+spread_at c (Loop l) = []
 
 -- in the order of expansion
-abbrev pub spread : Circuit → List Spread → List (List ℕ)
-spread c spreads = flat_map (spread_at c) spreads
+abbrev pub spread : Circuit → List Finding → List (List ℕ)
+spread c found = flat_map (spread_at c) found
 
 -- ---- by a set of names
 

@@ -1,6 +1,7 @@
--- The names that are spread where a drawing is expanded: a connection that is a name alone, without
--- a range and on no formal, means bit 0 of that name, which is taken for all bits of its place.
-use Rattle.std.specs.Prelude.{ℕ, zero, suc, List, [], ◌∷◌, ◌++◌, length, map, nat_lt, if◌then◌else◌, Option, Some, None, Ok, Err, ℤ}
+-- What is found where a drawing is expanded: the FORs that are reached, and the names that are
+-- spread. A connection that is a name alone, without a range and on no formal, means bit 0 of that
+-- name, which is taken for all bits of its place.
+use Rattle.std.specs.Prelude.{ℕ, Bool, true, false, zero, suc, List, [], ◌∷◌, ◌++◌, length, map, nat_lt, if◌then◌else◌, Option, Some, None, Ok, Err, ℤ}
 use Rattle.std.specs.List.{flat_map, zip}
 use Rattle.scald_base.specs.declared.refusal.Place.{Place}
 use Rattle.assertion_syntax.specs.declared.name.SignalName.{SignalName}
@@ -17,7 +18,8 @@ use Rattle.macro_expander.specs.Macros.{bound, given_to, inner_path, inside_of, 
 use Rattle.macro_expander.specs.Loops.{in_turn, loop_ends, values_between}
 use Rattle.macro_expander.specs.Setting.{Setting}
 use Rattle.macro_expander.specs.Flat.{const_values, deepest, is_zero, nothing_yet, setting_of, top}
-use Rattle.drawing_notes.specs.declared.spread.Spread.{Spread}
+use Rattle.drawing_notes.specs.declared.spread.Finding.{Finding}
+use Rattle.drawing_notes.specs.declared.spread.Finding.TheVariants.{Spread as ASpread, Loop}
 use Rattle.drawing_notes.specs.Widths.{widths}
 
 -- ---- one connection
@@ -39,14 +41,14 @@ lone_name scope (t ∷ []) = plain_name scope t.item
 lone_name scope _ = None
 
 -- over so many bits, if they are more than one
-abbrev pub spread_to : Scope → ℕ → Place → Option SignalName → List Spread
+abbrev pub spread_to : Scope → ℕ → Place → Option SignalName → List Finding
 spread_to scope n place None = []
 spread_to scope n place (Some name) =
     if nat_lt 1 n
-    then (record { place = place; name = net_text scope.path name; width = n }) ∷ []
+    then ASpread (record { place = place; name = net_text scope.path name; width = n }) ∷ []
     else []
 
-abbrev pub spread_over : Scope → ℕ → Connection → List Spread
+abbrev pub spread_over : Scope → ℕ → Connection → List Finding
 spread_over scope n c = spread_to scope n c.place (lone_name scope c.terms)
 
 -- ---- one use
@@ -55,11 +57,11 @@ abbrev pub use_width : Kind → Scope → UseStatement → ℕ
 use_width kind scope u = width_of kind (widths scope u.ins) (widths scope u.outs)
 
 -- the inputs of a change function may have any width, so none of them is spread
-abbrev pub in_primitive : Kind → Scope → UseStatement → List Spread
+abbrev pub in_primitive : Kind → Scope → UseStatement → List Finding
 in_primitive kind scope u =
     if is_change kind then [] else flat_map (spread_over scope (use_width kind scope u)) u.ins
 
-abbrev pub in_formal : Scope → Shape × Connection → List Spread
+abbrev pub in_formal : Scope → Shape × Connection → List Finding
 in_formal scope pair = spread_over scope (length pair.0.numbers) pair.1
 
 -- what names mean in a macro's body, whichever bits are bound to its formals
@@ -73,15 +75,15 @@ body_scope scope label inside = record {
 
 -- what is spread in a scope
 abbrev pub Spreading : Type 0
-Spreading = Scope → List Spread
+Spreading = Scope → List Finding
 
-abbrev pub in_body : Option (Macro → Spreading) → Macro → Scope → List ℕ → Inside → List Spread
+abbrev pub in_body : Option (Macro → Spreading) → Macro → Scope → List ℕ → Inside → List Finding
 in_body None m scope label inside = []
 in_body (Some body) m scope label inside = body m (body_scope scope label inside)
 
 -- over its formals, and then in its body
 abbrev pub in_macro_with : Option (Macro → Spreading) → Macro → Scope → UseStatement →
-    Judged Inside → List Spread
+    Judged Inside → List Finding
 in_macro_with body m scope u (Ok inside) =
     flat_map (in_formal scope) (zip inside.ins u.ins) ++ in_body body m scope u.label inside
 in_macro_with body m scope u (Err kind) = []
@@ -101,12 +103,21 @@ in_use_of None setting body u scope =
 
 -- ---- statements
 
-abbrev pub in_turns : List ℕ → Spreading → Judged (ℤ × ℤ) → Spreading
-in_turns var body (Ok ends) scope =
-    flat_map (λ (v : ℤ). body (in_turn var v scope)) (values_between ends.0 ends.1)
-in_turns var body (Err kind) scope = []
+abbrev pub is_some_turn : List ℤ → Bool
+is_some_turn [] = false
+is_some_turn (v ∷ vs) = true
 
-abbrev pub if_chosen : Judged ℤ → List Spread → List Spread → List Spread
+-- a FOR that is reached, whose variable takes these values
+abbrev pub reached : Place → List ℤ → Finding
+reached place values = Loop (record { place = place; has_turn = is_some_turn values })
+
+abbrev pub in_turns : List ℕ → Place → Spreading → Judged (ℤ × ℤ) → Spreading
+in_turns var place body (Ok ends) scope =
+    reached place (values_between ends.0 ends.1)
+    ∷ flat_map (λ (v : ℤ). body (in_turn var v scope)) (values_between ends.0 ends.1)
+in_turns var place body (Err kind) scope = []
+
+abbrev pub if_chosen : Judged ℤ → List Finding → List Finding → List Finding
 if_chosen (Ok v) taken other = if is_zero v then other else taken
 if_chosen (Err kind) taken other = []
 
@@ -118,7 +129,7 @@ abbrev mutual
       if_chosen (valued scope.env test)
       (in_statements setting body taken scope) (in_otherwise setting body other scope)
   in_statement setting body (For var first last ss place) scope =
-      in_turns var (in_statements setting body ss) (loop_ends scope.env first last) scope
+      in_turns var place (in_statements setting body ss) (loop_ends scope.env first last) scope
 
   pub in_statements : Setting → Option (Macro → Spreading) → Statements → Spreading
   in_statements setting body nil scope = []
@@ -136,7 +147,7 @@ spreading_at setting (suc n) = Some (λ m. in_statements setting (spreading_at s
 
 -- ---- the whole
 
-abbrev pub spreads_with : Drawing → Outcome (List Binding) → List Spread
+abbrev pub spreads_with : Drawing → Outcome (List Binding) → List Finding
 spreads_with d (Gives consts s) =
     let setting = setting_of d consts in
     in_statements setting (spreading_at setting deepest) d.body (top consts)
@@ -144,5 +155,5 @@ spreads_with d (Fails kind place) = []
 
 -- In the order of expansion, and in one use in the order of its inputs. Where the drawing is
 -- refused, what is not reached has none.
-unfoldable pub spreads : Drawing → List Spread
+unfoldable pub spreads : Drawing → List Finding
 spreads d = spreads_with d (const_values [] d.consts d.const_places (nothing_yet d.header))

@@ -7,16 +7,16 @@ use Rattle.macro_expander.specs.declared.scope.Scope as numbered_scope
 use Rattle.macro_expander.specs.Terms.{Scope}
 use Rattle.macro_expander.specs.Numbered.{scope_of}
 use Rattle.macro_expander.specs.Library.{setting_in}
-use Rattle.drawing_notes.specs.declared.spread.Spread.{Spread}
+use Rattle.drawing_notes.specs.declared.spread.Finding.{Finding}
 use Rattle.drawing_notes.specs.Spreads.{in_statement, in_statements, spreading_at}
 
 abbrev pub seen : numbered_scope.Scope → Scope
 seen scope = scope_of [] scope
 
-abbrev pub in_one : Library → ℕ → Statement → numbered_scope.Scope → List Spread
+abbrev pub in_one : Library → ℕ → Statement → numbered_scope.Scope → List Finding
 in_one l levels s scope =
     in_statement (setting_in l) (spreading_at (setting_in l) levels) s (seen scope)
 
-abbrev pub in_all : Library → ℕ → Statements → numbered_scope.Scope → List Spread
+abbrev pub in_all : Library → ℕ → Statements → numbered_scope.Scope → List Finding
 in_all l levels ss scope =
     in_statements (setting_in l) (spreading_at (setting_in l) levels) ss (seen scope)

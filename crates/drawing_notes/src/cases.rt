@@ -1,12 +1,13 @@
 //! What the cases so far tell.
 
-ghost use Rattle.std.specs.Prelude.{◌≡◌, ◌++◌, ◌∷◌, [], List, IfOk, OnOk, length};
+ghost use Rattle.std.specs.Prelude.{◌≡◌, ◌++◌, ◌∷◌, [], List, IfOk, OnOk};
 ghost use Rattle.fixpoint_engine.specs.Waves.{FitWaves, waves_of};
 ghost use Rattle.timing_analysis.specs.Case.{Case};
 ghost use Rattle.drawing_notes.specs.SoFar.{HoldsOf};
 
 use crate::Notes;
-use crate::skews::add_skews;
+use crate::case_gates::CaseGates;
+use crate::case_paths::CasePaths;
 use crate::unclocked::add_acts;
 use crate::unknown::add_unknown;
 use fixpoint_engine::Waves;
@@ -21,10 +22,12 @@ use wave_core::CyclicWave;
 pub struct SoFar {
     /// By the numbers of instances, whose clock or enable does something in some case.
     pub acts: Vec<bool>,
-    /// The greatest skew of each net, by its number, in ticks.
-    pub skews: Vec<u16>,
     /// The notes on what is unknown.
     pub unknown: Notes,
+    /// Gates that let clocks through.
+    pub gates: CaseGates,
+    /// Paths from storage on.
+    pub paths: CasePaths,
 }
 
 impl SoFar {
@@ -32,10 +35,13 @@ impl SoFar {
     pub fn begin(alloc: Global, c: &Circuit) -> Result<SoFar, NoMemory>
         ensures { IfOk result (λ so_far. HoldsOf so_far c.now []) }
     {
+        let gates = CaseGates::begin(alloc, c)?;
+        let paths = CasePaths::begin(alloc, c)?;
         Ok(SoFar {
             acts: vec![in alloc; false; c.instance_count() as usize]?,
-            skews: vec![in alloc; 0; c.net_count() as usize]?,
             unknown: Notes::new(Bytes::new(alloc)),
+            gates,
+            paths,
         })
     }
 
@@ -48,14 +54,14 @@ impl SoFar {
         waves: &Waves<W>,
     ) -> Result<(), NoMemory>
         requires fit { FitWaves c.now waves.now }
-        requires each_instance { length self.old.acts.items ≡ length c.now.instances }
-        requires each_net { length self.old.skews.items ≡ length c.now.nets }
+        requires ready { (cases : List Case) × HoldsOf self.old c.now cases }
         ensures { OnOk result ((cases : List Case) (one : Case) → one.listed.number ≡ number →
             one.waves ≡ waves_of waves.now → HoldsOf self.old c.now cases →
             HoldsOf self.new c.now (cases ++ one ∷ [])) }
     {
         add_acts(alloc, c, waves, &mut self.acts)?;
-        add_skews(c, waves, &mut self.skews);
+        self.gates.add_case(c, waves);
+        self.paths.add_case(alloc, c, waves)?;
         add_unknown(&mut self.unknown, c, number, waves)
     }
 }

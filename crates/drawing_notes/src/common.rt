@@ -1,48 +1,28 @@
 //! Checkers whose input is launched by their own clock.
 
-ghost use Rattle.std.specs.Prelude.{◌≡◌, ◌<◌, ◌&&◌, ◌∷◌, [], ℕ, Bool, Some, IfOk, OnOk, length, slice_get, slice_set};
+ghost use Rattle.std.specs.Prelude.{◌≡◌, ◌<◌, ◌&&◌, ◌∷◌, [], ℕ, Bool, Some, IfOk, OnOk, length, slice_get};
 ghost use Rattle.flat_circuit.specs.Circuit.{driver};
 ghost use Rattle.fixpoint_engine.specs.Settled.{marked_in};
+ghost use Rattle.fixpoint_engine.specs.Waves.{FitWaves, waves_of};
 ghost use Rattle.case_analysis.specs.Found.{Extends};
-ghost use Rattle.drawing_notes.specs.Parts.{together};
-ghost use Rattle.drawing_notes.specs.Paths.{TellsLaunches, is_looped};
+ghost use Rattle.drawing_notes.specs.Paths.{TellsLaunches};
 ghost use Rattle.drawing_notes.specs.Search.{is_clocked_by as spec_clocked};
+ghost use Rattle.drawing_notes.specs.Seen.{IsSeen, Sees};
 ghost use Rattle.drawing_notes.specs.Lines.{Adds};
-ghost use Rattle.drawing_notes.specs.Common.{common, common_at, common_line, skew_at as spec_skew_at};
-ghost use Rattle.drawing_notes.specs.Doubts.{AreCommon, AreUnlooped, IsLaunched, WasFound, doubt_at, is_common_by, launches_to};
+ghost use Rattle.drawing_notes.specs.Common.{AreRaisedTicks, common, common_of, skew_at as spec_skew_at, skew_in, ticks_by};
+ghost use Rattle.drawing_notes.specs.Doubts.{AreCommon, IsLaunched, WasFound, launches_to};
 
-use crate::doubts::{Doubt, doubt_about, doubts};
-use crate::skews::skew_at;
-use crate::{CLOCK, Found, Notes, Part, is_storage, part_at, pin_net};
-use fixpoint_engine::{NetSet, output_of, readers_of};
+use crate::doubts::{doubt_about, doubts};
+use crate::passing::View;
+use crate::skews::{add_skews, skew_at};
+use crate::{CLOCK, Found, Notes, is_storage, pin_net};
+use fixpoint_engine::{NetSet, Waves, output_of, readers_of};
 use flat_circuit::{Circuit, Instance};
 use listing::{Piece, instance_piece, net_piece};
 use scald_base::NoMemory;
 use std::alloc::Global;
-
-/// Puts a net into a set, or takes it out.
-fn put(set: &mut NetSet, net: u32, inside: bool)
-    requires { net < length set.old }
-    ensures { set.new ≡ slice_set set.old net inside }
-{
-    if inside {
-        set.add(net);
-    } else {
-        set.remove(net);
-    }
-}
-
-/// The nets that are on no loop.
-fn unlooped(alloc: Global, c: &Circuit, parts: &[Part]) -> Result<NetSet, NoMemory>
-    requires { length parts.now ≡ length c.now.nets }
-    ensures { IfOk result (AreUnlooped c.now (is_looped (together parts.now))) }
-{
-    let mut set = NetSet::new(alloc, c.net_count())?;
-    for net in 0..c.net_count() {
-        put(&mut set, net, part_at(parts, net).is_none());
-    }
-    Ok(set)
-}
+use step_values::Value;
+use wave_core::CyclicWave;
 
 /// Whether it is storage whose clock or enable is on a net.
 fn is_clocked_by(instance: &Instance, clock: u32) -> bool
@@ -98,126 +78,167 @@ fn add_launched(found: &mut Found, c: &Circuit, within: &NetSet, clock: u32) -> 
 }
 
 /// Finds exactly what a clock launches, in place of what was found before.
-fn search(found: &mut Found, c: &Circuit, unlooped: &NetSet, clock: u32) -> Result<(), NoMemory>
-    requires each_net { length found.old.marks ≡ length c.now.nets }
-    requires exists { clock < length c.now.nets }
-    ensures each_net { OnOk result (length found.new.marks ≡ length c.now.nets) }
-    ensures is { OnOk result ((looped : ℕ → Bool) →
-        AreUnlooped c.now looped unlooped.now → IsLaunched c.now looped clock found.new.marks) }
+fn search<W: CyclicWave<Item = Value>>(
+    found: &mut Found,
+    view: &View<W>,
+    clock: u32,
+) -> Result<(), NoMemory>
+    requires sees { IsSeen view.now.circuit.now view.now.waves.now view.now.within.now
+        view.now.held.now }
+    requires each_net { length found.old.marks ≡ length view.now.circuit.now.nets }
+    requires exists { clock < length view.now.circuit.now.nets }
+    ensures each_net { OnOk result (length found.new.marks ≡ length view.now.circuit.now.nets) }
+    ensures is { let v = view.now in OnOk result ((looped : ℕ → Bool) →
+        Sees v.circuit.now looped v.waves.now v.within.now v.held.now →
+        IsLaunched v.circuit.now looped (waves_of v.waves.now) clock found.new.marks) }
 {
     found.clear();
-    add_launched(found, c, unlooped, clock)?;
-    found.follow(c, unlooped)?;
+    add_launched(found, view.circuit, view.within, clock)?;
+    found.follow_open(view)?;
     Ok(())
 }
 
 /// The same, where what was found before is what the last search was for, if there was one: nothing
 /// is done where that was for the same clock.
-fn find_launched(
+fn find_launched<W: CyclicWave<Item = Value>>(
     found: &mut Found,
-    c: &Circuit,
-    unlooped: &NetSet,
+    view: &View<W>,
     last: Option<u32>,
     clock: u32,
 ) -> Result<(), NoMemory>
-    requires each_net { length found.old.marks ≡ length c.now.nets }
-    requires exists { clock < length c.now.nets }
-    ensures each_net { OnOk result (length found.new.marks ≡ length c.now.nets) }
-    ensures is { OnOk result ((looped : ℕ → Bool) → AreUnlooped c.now looped unlooped.now →
-        WasFound c.now looped last found.old.marks →
-        IsLaunched c.now looped clock found.new.marks) }
+    requires sees { IsSeen view.now.circuit.now view.now.waves.now view.now.within.now
+        view.now.held.now }
+    requires each_net { length found.old.marks ≡ length view.now.circuit.now.nets }
+    requires exists { clock < length view.now.circuit.now.nets }
+    ensures each_net { OnOk result (length found.new.marks ≡ length view.now.circuit.now.nets) }
+    ensures is { let v = view.now in OnOk result ((looped : ℕ → Bool) →
+        Sees v.circuit.now looped v.waves.now v.within.now v.held.now →
+        WasFound v.circuit.now looped (waves_of v.waves.now) last found.old.marks →
+        IsLaunched v.circuit.now looped (waves_of v.waves.now) clock found.new.marks) }
 {
     match last {
         Some(same) if same == clock => Ok(()),
-        _ => search(found, c, unlooped, clock),
+        _ => search(found, view, clock),
     }
 }
 
 /// Which instances are checkers whose input is launched by their own clock, where that may be late
-/// as a whole, by their numbers. It costs what each such clock reaches.
-fn common_checkers(
+/// as a whole in the case, by their numbers. It costs what each such clock reaches.
+fn common_checkers<W: CyclicWave<Item = Value>>(
     alloc: Global,
-    c: &Circuit,
-    parts: &[Part],
+    view: &View<W>,
     skews: &[u16],
 ) -> Result<Vec<bool>, NoMemory>
-    requires { length parts.now ≡ length c.now.nets }
-    ensures long { IfOk result (λ common. length common.items ≡ length c.now.instances) }
-    ensures are { IfOk result (λ common. (launched : ℕ → ℕ → Bool) →
-        TellsLaunches c.now (is_looped (together parts.now)) launched →
-        AreCommon c.now launched (spec_skew_at skews.now) common.items) }
+    requires sees { IsSeen view.now.circuit.now view.now.waves.now view.now.within.now
+        view.now.held.now }
+    ensures long { IfOk result (λ common.
+        length common.items ≡ length view.now.circuit.now.instances) }
+    ensures are { let v = view.now in IfOk result (λ common. (looped : ℕ → Bool)
+        (launched : ℕ → ℕ → Bool) →
+        Sees v.circuit.now looped v.waves.now v.within.now v.held.now →
+        TellsLaunches v.circuit.now looped (waves_of v.waves.now) launched →
+        AreCommon v.circuit.now launched (spec_skew_at skews.now) common.items) }
 {
+    let c = view.circuit;
     c.known();
     let doubts = doubts(alloc, c, skews)?;
-    let unlooped = unlooped(alloc, c, parts)?;
     let mut common = vec![in alloc; false; c.instance_count() as usize]?;
     let mut found = Found::new(alloc, c.net_count())?;
     let mut last = None;
     for doubt in doubts.as_slice() {
-        find_launched(&mut found, c, &unlooped, last, doubt.clock)?;
+        find_launched(&mut found, view, last, doubt.clock)?;
         last = Some(doubt.clock);
         common[doubt.checker as usize] = found.set().has(doubt.input);
     }
     Ok(common)
 }
 
-/// The note on such a checker.
-#[tactic(auto, unfolding(crate::specs::Common::common_line))]
-fn add_note(notes: &mut Notes, c: &Circuit, skews: &[u16], doubt: Doubt) -> Result<(), NoMemory>
-    ensures { OnOk result (Adds notes.old notes.new
-        (common_line c.now doubt.checker doubt.clock (spec_skew_at skews.now doubt.clock) ∷ [])) }
+/// The skew of the clock of a checker, where it launches the checker's input.
+fn ticks_of(c: &Circuit, skews: &[u16], number: u32, is_common: bool) -> u16
+    ensures { result ≡ ticks_by c.now (spec_skew_at skews.now) number is_common }
 {
+    if !is_common {
+        return 0;
+    }
+    match doubt_about(c, skews, number) {
+        Some(doubt) => skew_at(skews, doubt.clock),
+        None => 0,
+    }
+}
+
+/// The skew of each net in a case.
+fn skews<W: CyclicWave<Item = Value>>(
+    alloc: Global,
+    c: &Circuit,
+    waves: &Waves<W>,
+) -> Result<Vec<u16>, NoMemory>
+    requires { FitWaves c.now waves.now }
+    ensures { IfOk result (λ skews. spec_skew_at skews.items ≡ skew_in (waves_of waves.now)) }
+{
+    let mut skews = vec![in alloc; 0; c.net_count() as usize]?;
+    add_skews(c, waves, &mut skews);
+    Ok(skews)
+}
+
+/// Raises the ticks of each checker, by its number, to those of one case more.
+pub(crate) fn raise_ticks<W: CyclicWave<Item = Value>>(
+    alloc: Global,
+    view: &View<W>,
+    ticks: &mut [u16],
+) -> Result<(), NoMemory>
+    requires sees { IsSeen view.now.circuit.now view.now.waves.now view.now.within.now
+        view.now.held.now }
+    requires long { length ticks.old ≡ length view.now.circuit.now.instances }
+    ensures { let v = view.now in OnOk result ((looped : ℕ → Bool) (launched : ℕ → ℕ → Bool) →
+        Sees v.circuit.now looped v.waves.now v.within.now v.held.now →
+        TellsLaunches v.circuit.now looped (waves_of v.waves.now) launched →
+        AreRaisedTicks v.circuit.now (waves_of v.waves.now) launched ticks.old ticks.new) }
+{
+    let c = view.circuit;
+    let skews = skews(alloc, c, view.waves)?;
+    let common = common_checkers(alloc, view, &skews)?;
+    for number in 0..c.instance_count() {
+        let place = number as usize;
+        let more = ticks_of(c, &skews, number, common[place]);
+        ticks[place] = ticks[place].max(more);
+    }
+    Ok(())
+}
+
+/// The note on a checker, where its clock launches its input, so many ticks late as a whole.
+#[tactic(auto, unfolding(crate::specs::Common::common_line))]
+fn add_common_at(notes: &mut Notes, c: &Circuit, number: u32, ticks: u16) -> Result<(), NoMemory>
+    ensures { OnOk result (Adds notes.old notes.new
+        (common_of c.now number ticks (slice_get c.now.instances number))) }
+{
+    let Some(instance) = c.instance(number) else {
+        return Ok(());
+    };
+    let Some(clock) = pin_net(instance, CLOCK) else {
+        return Ok(());
+    };
+    if ticks == 0 {
+        return Ok(());
+    }
     notes.add(&[
         Piece::Text(b"NOTE COMMON "),
-        instance_piece(c, doubt.checker),
+        instance_piece(c, number),
         Piece::Text(b" "),
-        net_piece(c, doubt.clock),
+        net_piece(c, clock),
         Piece::Text(b" TICKS "),
-        Piece::Number(u64::from(skew_at(skews, doubt.clock))),
+        Piece::Number(u64::from(ticks)),
     ])
 }
 
-/// The note on an instance, where it is such a checker.
-fn add_common_at(
-    notes: &mut Notes,
-    c: &Circuit,
-    skews: &[u16],
-    number: u32,
-    is_common: bool,
-) -> Result<(), NoMemory>
-    ensures { OnOk result ((launched : ℕ → ℕ → Bool) →
-        is_common ≡ is_common_by launched (doubt_at c.now (spec_skew_at skews.now) number) →
-        Adds notes.old notes.new (common_at c.now launched (spec_skew_at skews.now) number)) }
-{
-    if !is_common {
-        return Ok(());
-    }
-    match doubt_about(c, skews, number) {
-        Some(doubt) => add_note(notes, c, skews, doubt),
-        None => Ok(()),
-    }
-}
-
 /// Appends the notes on checkers to whose input a path leads from storage on their own clock net,
-/// where that net's wave may be late as a whole, in the order of expansion. `parts` are the loops
-/// of the circuit, and `skews` the greatest skew of each net, in ticks. It costs what each such
-/// clock reaches. `NoMemory` comes where memory runs out.
-pub fn add_common(
-    notes: &mut Notes,
-    alloc: Global,
-    c: &Circuit,
-    parts: &[Part],
-    skews: &[u16],
-) -> Result<(), NoMemory>
-    requires { length parts.now ≡ length c.now.nets }
-    ensures { OnOk result ((launched : ℕ → ℕ → Bool) →
-        TellsLaunches c.now (is_looped (together parts.now)) launched →
-        Adds notes.old notes.new (common c.now launched (spec_skew_at skews.now))) }
+/// where that net's wave may be late as a whole, in the order of expansion, by these ticks of each
+/// instance. `NoMemory` comes where memory runs out.
+pub fn add_common(notes: &mut Notes, c: &Circuit, ticks: &[u16]) -> Result<(), NoMemory>
+    requires { length ticks.now ≡ length c.now.instances }
+    ensures { OnOk result (Adds notes.old notes.new (common c.now (spec_skew_at ticks.now))) }
 {
-    let common = common_checkers(alloc, c, parts, skews)?;
-    let marks = common.as_slice();
     for number in 0..c.instance_count() {
-        add_common_at(notes, c, skews, number, marks[number as usize])?;
+        add_common_at(notes, c, number, ticks[number as usize])?;
     }
     Ok(())
 }

@@ -1,21 +1,27 @@
 //! Searches from net to net, through gates and change functions alone.
 
-ghost use Rattle.std.specs.Prelude.{◌≡◌, ◌<◌, ◌==◌, ◌&&◌, ◌||◌, ℕ, [], IfOk, OnOk, false, length, replicate, slice_get};
+ghost use Rattle.std.specs.Prelude.{◌≡◌, ◌<◌, ◌==◌, ◌&&◌, ◌||◌, ℕ, [], IfOk, OnOk, Some, false, length, replicate, slice_get};
 ghost use Rattle.std.specs.List.{All, list_any};
 ghost use Rattle.flat_circuit.specs.Instances.{PinExists, is_on};
 ghost use Rattle.fixpoint_engine.specs.Settled.{marked_in};
 ghost use Rattle.fixpoint_engine.specs.Work.{is_on_any};
 ghost use Rattle.fixpoint_engine.specs.Worklist.{IsQueue};
 ghost use Rattle.case_analysis.specs.Found.{Extends};
-ghost use Rattle.drawing_notes.specs.Paths.{leads};
-ghost use Rattle.drawing_notes.specs.Search.{IsFound, is_led_to, passes_to};
+ghost use Rattle.fixpoint_engine.specs.Waves.{waves_of};
+ghost use Rattle.drawing_notes.specs.Passing.{opens_at as spec_opens_at, opens_by, opens_on};
+ghost use Rattle.drawing_notes.specs.Paths.{leads, leads_in};
+ghost use Rattle.drawing_notes.specs.Seen.{IsSeen};
+ghost use Rattle.drawing_notes.specs.Search.{IsFound, is_led_to, opens_to, passes_to};
 
+use crate::passing::{View, is_heard};
 use crate::pins::passes;
-use fixpoint_engine::{NetSet, output_of, readers_of};
-use flat_circuit::{Circuit, Pin, Target};
+use fixpoint_engine::{NetSet, Waves, output_of, readers_of};
+use flat_circuit::{Circuit, Instance, Pin, Target};
 use scald_base::NoMemory;
 use std::alloc::Global;
 use std::marker::Model;
+use step_values::Value;
+use wave_core::CyclicWave;
 
 /// Nets that were found, each once.
 #[derive(Drop)]
@@ -171,6 +177,86 @@ impl Found {
         Ok(())
     }
 
+    /// Appends what an instance drives, where it has an open pin on a net, and what it drives passes
+    /// something on.
+    fn add_open_output<W: CyclicWave<Item = Value>>(
+        &mut self,
+        view: &View<W>,
+        net: u32,
+        number: u32,
+    ) -> Result<(), NoMemory>
+        requires sees { IsSeen view.now.circuit.now view.now.waves.now view.now.within.now
+            view.now.held.now }
+        requires each_net { length self.old.marks ≡ length view.now.circuit.now.nets }
+        ensures { let v = view.now in OnOk result (Extends (λ i. marked_in v.within.now i
+            && opens_to v.circuit.now (waves_of v.waves.now) net
+            (slice_get v.circuit.now.instances number) i) self.old self.new) }
+    {
+        let c = view.circuit;
+        c.known();
+        let Some(instance) = c.instance(number) else {
+            return Ok(());
+        };
+        if !is_open_from(view, net, number, instance) {
+            return Ok(());
+        }
+        match output_of(c, number) {
+            Some(driven) if view.within.has(driven) => self.add(driven),
+            _ => Ok(()),
+        }
+    }
+
+    /// Appends the nets that pass something on and whose driver has an open pin on a net.
+    fn add_open<W: CyclicWave<Item = Value>>(
+        &mut self,
+        view: &View<W>,
+        net: u32,
+    ) -> Result<(), NoMemory>
+        requires sees { IsSeen view.now.circuit.now view.now.waves.now view.now.within.now
+            view.now.held.now }
+        requires each_net { length self.old.marks ≡ length view.now.circuit.now.nets }
+        requires exists { net < length view.now.circuit.now.nets }
+        ensures { let v = view.now in OnOk result (Extends (λ i. marked_in v.within.now i
+            && leads_in v.circuit.now (waves_of v.waves.now) net i) self.old self.new) }
+    {
+        let c = view.circuit;
+        c.known();
+        for reader in readers_of(c, net) {
+            self.add_open_output(view, net, *reader)?;
+        }
+        Ok(())
+    }
+
+    /// Appends all nets to which the found ones lead in a case, over nets that pass something on and
+    /// open pins. It costs what the readers of these nets cost.
+    pub(crate) fn follow_open<W: CyclicWave<Item = Value>>(
+        &mut self,
+        view: &View<W>,
+    ) -> Result<(), NoMemory>
+        requires sees { IsSeen view.now.circuit.now view.now.waves.now view.now.within.now
+            view.now.held.now }
+        requires each_net { length self.old.marks ≡ length view.now.circuit.now.nets }
+        ensures each_net { OnOk result (length self.new.marks ≡ length view.now.circuit.now.nets) }
+        ensures is { let v = view.now in OnOk result (IsFound
+            (leads_in v.circuit.now (waves_of v.waves.now)) (marked_in v.within.now)
+            (marked_in self.old.marks) (marked_in self.new.marks)) }
+    {
+        view.circuit.known();
+        let mut next = 0;
+        'nets: while let Some(net) = self.at(next) {
+            self.add_open(view, net)?;
+            next += 1;
+        }
+        Ok(())
+    }
+
+    /// The nets that were found, as a set.
+    pub fn into_set(self) -> NetSet
+        ensures { result ≡ self.marks }
+    {
+        self.marks
+    }
+
     /// Appends all nets that lead to the found ones over nets within the set. It costs what the
     /// pins of the drivers of these nets cost.
     pub fn trace(&mut self, c: &Circuit, within: &NetSet) -> Result<(), NoMemory>
@@ -186,6 +272,62 @@ impl Found {
             next += 1;
         }
         Ok(())
+    }
+}
+
+/// Whether an instance is a gate or a change function that has an open pin on a net.
+fn is_open_from<W: CyclicWave<Item = Value>>(
+    view: &View<W>,
+    net: u32,
+    number: u32,
+    instance: &Instance,
+) -> bool
+    requires sees { IsSeen view.now.circuit.now view.now.waves.now view.now.within.now
+        view.now.held.now }
+    requires is { Some instance.now ≡ slice_get view.now.circuit.now.instances number }
+    ensures { result
+        ≡ opens_on view.now.circuit.now (waves_of view.now.waves.now) net (Some instance.now) }
+{
+    view.circuit.known();
+    if !passes(instance.kind) {
+        return false;
+    }
+    has_open_pin_on(view.waves, view.held.has(number), net, instance)
+}
+
+/// Whether an instance has an open pin on a net, by whether the rule of a mark of it holds.
+fn has_open_pin_on<W: CyclicWave<Item = Value>>(
+    waves: &Waves<W>,
+    held: bool,
+    net: u32,
+    instance: &Instance,
+) -> bool
+    requires exist { All (PinExists (length waves.now)) instance.now.pins }
+    ensures { result ≡ opens_by held (waves_of waves.now) net instance.now }
+{
+    for place in 0..instance.pins.len() {
+        if opens_at(waves, held, net, instance, place) {
+            return true;
+        }
+    }
+    false
+}
+
+/// Whether the pin at a place is open, and on a net.
+fn opens_at<W: CyclicWave<Item = Value>>(
+    waves: &Waves<W>,
+    held: bool,
+    net: u32,
+    instance: &Instance,
+    place: usize,
+) -> bool
+    requires exist { All (PinExists (length waves.now)) instance.now.pins }
+    ensures { result ≡ spec_opens_at held (waves_of waves.now) net instance.now place
+        (slice_get instance.now.pins place) }
+{
+    match instance.pins.get(place) {
+        Some(pin) => pin.target == Target::Net(net) && is_heard(held, waves, instance, place, *pin),
+        None => false,
     }
 }
 

@@ -1,7 +1,7 @@
 //! Paths that take longer than a period.
 
-ghost use Rattle.std.specs.Prelude.{◌≡◌, ◌^◌, OnOk};
-ghost use Rattle.drawing_notes.specs.Arrivals.{AreSmall, arrival_at};
+ghost use Rattle.std.specs.Prelude.{◌≡◌, ◌*◌, ◌^◌, OnOk};
+ghost use Rattle.drawing_notes.specs.Arrivals.{AreUpTo, arrival_at};
 ghost use Rattle.drawing_notes.specs.Late.{late, late_at, late_on};
 ghost use Rattle.drawing_notes.specs.Lines.{Adds};
 
@@ -22,7 +22,7 @@ fn add_late_on(
     place: usize,
     net: Option<u32>,
 ) -> Result<(), NoMemory>
-    requires { AreSmall (2 ^ 32) arrivals.now }
+    requires { AreUpTo (131070 * 2 ^ 32) arrivals.now }
     ensures { OnOk result (Adds notes.old notes.new
         (late_on c.now (arrival_at arrivals.now) number place net)) }
 {
@@ -57,7 +57,7 @@ fn add_late_at(
     arrivals: &[Option<Arrival>],
     number: u32,
 ) -> Result<(), NoMemory>
-    requires { AreSmall (2 ^ 32) arrivals.now }
+    requires { AreUpTo (131070 * 2 ^ 32) arrivals.now }
     ensures { OnOk result (Adds notes.old notes.new
         (late_at c.now (arrival_at arrivals.now) number)) }
 {
@@ -80,7 +80,7 @@ pub fn add_late(
     c: &Circuit,
     arrivals: &[Option<Arrival>],
 ) -> Result<(), NoMemory>
-    requires { AreSmall (2 ^ 32) arrivals.now }
+    requires { AreUpTo (131070 * 2 ^ 32) arrivals.now }
     ensures { OnOk result (Adds notes.old notes.new (late c.now (arrival_at arrivals.now))) }
 {
     for number in 0..c.instance_count() {

@@ -7,10 +7,11 @@
 //! are, in the words of its line, and a call that appends exactly its lines to [`Notes`] and counts
 //! them.
 //!
-//! `specs/Paths` says which net leads to which: [`parts`] finds the loops, and [`arrivals`] when
-//! what storage launches comes at the latest. [`SoFar`] gathers what the cases tell, one after
-//! another. [`spreads`] goes down the statements as the expansion does, and finds the names that
-//! are spread (`specs/Spreads`, `specs/Widths`).
+//! `specs/Paths` says which net leads to which, and `specs/Passing` what passes on a change in a
+//! case: [`parts`] finds the loops, [`CasePaths`] what storage launches, and [`CaseGates`] what
+//! clocks reach. [`SoFar`] gathers what the cases tell, one after another. [`spreads`] goes down the
+//! statements as the expansion does, and finds the names that are spread (`specs/Spreads`,
+//! `specs/Widths`).
 #![tactic(auto)]
 
 // lines, and the pins that they are about
@@ -29,42 +30,66 @@ mod launched;
 mod left;
 mod loop_notes;
 mod loops;
+mod passing;
 
 // what waves tell, case by case
+mod case_gates;
+mod case_paths;
 mod cases;
+mod clocks;
 mod common;
 mod doubts;
+mod held;
 mod searching;
 mod skews;
 mod unclocked;
 mod unknown;
+mod unmarked;
 
-// names that are spread where a drawing is expanded
+// names that nothing determines, and cases
+mod case_bits;
+mod case_notes;
+mod loose;
+mod near;
+mod part;
+
+// what is found where a drawing is expanded
 mod body;
+mod fors;
 mod spread;
 mod spread_notes;
 mod walk;
 mod width;
 
 // the call
+mod drawn;
 mod program;
 mod reply;
 mod report;
 
+pub use case_bits::{CaseBit, CaseBits, case_values, written_cases};
+pub use case_gates::CaseGates;
+pub use case_notes::add_cases;
+pub use case_paths::CasePaths;
 pub use cases::SoFar;
 pub use common::add_common;
+pub use fors::{add_empty, for_places};
 pub use found::Found;
 pub use idle::add_idle;
 pub use late::add_late;
-pub use launched::{Arrival, Arrivals, arrivals};
+pub use launched::{Arrival, Edges, order};
 pub use loop_notes::{add_loops, part_at};
 pub use loops::{Part, parts};
+pub use near::{Near, add_near};
 pub use notes::Notes;
+pub use part::add_part;
+pub use passing::View;
 pub use pins::{CLOCK, INPUT, has_clock, is_storage, pin_net, target_piece};
 pub use program::{NotesProgram, notes_main};
-pub use spread::{Spread, Spreads};
+pub use spread::{Finding, Findings, Reached, Spread};
 pub use spread_notes::add_spread;
 pub use unchecked::{Sampling, add_unchecked};
 pub use unclocked::add_unclocked;
+pub use unmarked::add_unmarked;
 pub use unread::add_unread;
 pub use walk::spreads;

@@ -1,8 +1,8 @@
 //! The notes on a drawing while its cases come one after the other.
 
 use crate::report::report;
-use crate::{SoFar, Spreads, spreads};
-use drawing_tree::Drawing;
+use crate::{CaseBits, Findings, SoFar, for_places, spreads, written_cases};
+use drawing_tree::{Drawing, Places};
 use fixpoint_engine::Waves;
 use flat_circuit::Circuit;
 use program_call::{Reply, Reporter};
@@ -12,11 +12,15 @@ use step_values::Value;
 use timing_analysis::SettledCase;
 use wave_core::CyclicWave;
 
-/// What the notes keep of a drawing: its version, and the names that it spreads.
+/// What the notes keep of a drawing.
 #[derive(Drop)]
 pub struct Kept {
     pub version: u8,
-    pub spreads: Spreads,
+    /// What is found where it is expanded.
+    pub found: Findings,
+    /// The places of its FORs, in the order of the text.
+    pub fors: Places,
+    pub cases: CaseBits,
 }
 
 /// What is kept of the drawing, and what the cases so far tell.
@@ -39,7 +43,7 @@ impl Reporter for Noting {
 
     ghost keeps = { kept_of };
 
-    ghost reports = { λ asked kept. AreNotes kept.version kept.spreads };
+    ghost reports = { λ asked kept. AreNotes kept };
 
     ghost holds = { λ noting asked kept c base cases. (noting.kept ≡ kept)
         × HoldsOf noting.so_far c cases };
@@ -47,10 +51,11 @@ impl Reporter for Noting {
     ghost ready = { λ noting c places. (cases : List Case) × HoldsOf noting.so_far c cases };
 
     fn keep(alloc: Global, drawing: &Drawing) -> Result<Kept, NoMemory> {
-        let spreads = spreads(alloc, drawing)?;
         Ok(Kept {
             version: drawing.version,
-            spreads,
+            found: spreads(alloc, drawing)?,
+            fors: for_places(alloc, drawing)?,
+            cases: written_cases(alloc, drawing)?,
         })
     }
 
@@ -77,8 +82,6 @@ impl Reporter for Noting {
     }
 
     fn end(self, alloc: Global, circuit: &Circuit) -> Result<Reply<Outcome>, NoMemory> {
-        let kept = &self.kept;
-        let spreads = kept.spreads.as_slice();
-        report(alloc, circuit, kept.version, spreads, &self.so_far)
+        report(alloc, circuit, &self.kept, &self.so_far)
     }
 }

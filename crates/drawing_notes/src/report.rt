@@ -1,16 +1,17 @@
 //! All notes on a circuit, kind by kind.
 
-ghost use Rattle.std.specs.Prelude.{◌≡◌, ◌++◌, ℕ, List, OnOk, IfOk, length};
+ghost use Rattle.std.specs.Prelude.{◌≡◌, ◌++◌, ℕ, Bool, List, OnOk, IfOk};
+ghost use Rattle.fixpoint_engine.specs.Waves.{Waves};
 ghost use Rattle.timing_analysis.specs.Case.{Case};
-ghost use Rattle.drawing_notes.specs.Parts.{AreInside, together};
-ghost use Rattle.drawing_notes.specs.Paths.{TellsLoops};
 ghost use Rattle.drawing_notes.specs.Lines.{Adds};
-ghost use Rattle.drawing_notes.specs.SoFar.{HoldsOf};
-ghost use Rattle.drawing_notes.specs.Report.{AddsPaths, AreNotes, count_line, single_notes};
+ghost use Rattle.drawing_notes.specs.SoFar.{AreLaunches, HoldsOf, ways_of};
+ghost use Rattle.drawing_notes.specs.Report.{AreNotes, count_line, path_notes, single_notes};
 
+use crate::drawn::add_drawn;
+use crate::reply::Kept;
 use crate::{
-    Notes, Part, SoFar, Spread, add_common, add_idle, add_late, add_loops, add_spread,
-    add_unchecked, add_unclocked, add_unread, arrivals, parts,
+    Notes, SoFar, add_common, add_idle, add_late, add_loops, add_unchecked, add_unclocked,
+    add_unmarked, add_unread,
 };
 use flat_circuit::Circuit;
 use listing::{Piece, add_line, write_period};
@@ -33,70 +34,55 @@ fn add_count(out: &mut Bytes, count: usize) -> Result<(), NoMemory>
     }
 }
 
-/// The notes on instances, nets and names, each by itself.
-fn add_single(
-    notes: &mut Notes,
-    alloc: Global,
-    c: &Circuit,
-    spreads: &[Spread],
-    so_far: &SoFar,
-) -> Result<(), NoMemory>
-    requires { length so_far.now.acts.items ≡ length c.now.instances }
-    ensures { OnOk result ((cases : List Case) → HoldsOf so_far.now c.now cases →
-        Adds notes.old notes.new (single_notes spreads.now c.now cases)) }
+/// The notes on instances and nets, each by itself and by the clocks that come to it.
+fn add_single(notes: &mut Notes, alloc: Global, c: &Circuit, so_far: &SoFar) -> Result<(), NoMemory>
+    requires { (cases : List Case) × HoldsOf so_far.now c.now cases }
+    ensures { OnOk result ((cases : List Case) (launched : Waves → ℕ → ℕ → Bool) →
+        HoldsOf so_far.now c.now cases →
+        Adds notes.old notes.new (single_notes (ways_of so_far.now launched) c.now cases)) }
 {
     add_unclocked(notes, c, &so_far.acts)?;
     add_idle(notes, c)?;
     add_unchecked(notes, alloc, c)?;
+    add_unmarked(notes, c, &so_far.gates.firsts)?;
     add_unread(notes, alloc, c)?;
-    add_spread(notes, alloc, c, spreads)?;
     Ok(())
 }
 
-/// The notes on paths between nets, by the loops of the circuit, and on what they meet with in
-/// waves.
-fn add_paths(
-    notes: &mut Notes,
-    alloc: Global,
-    c: &Circuit,
-    parts: &[Part],
-    so_far: &SoFar,
-) -> Result<(), NoMemory>
-    requires each_net { length parts.now ≡ length c.now.nets }
-    requires inside { AreInside (length c.now.nets) parts.now }
-    requires loops { TellsLoops c.now (together parts.now) }
-    ensures { OnOk result (AddsPaths so_far.now c.now notes.old notes.new) }
+/// The notes on paths between nets, and on what they meet with in waves.
+fn add_paths(notes: &mut Notes, alloc: Global, c: &Circuit, so_far: &SoFar) -> Result<(), NoMemory>
+    requires { (cases : List Case) × HoldsOf so_far.now c.now cases }
+    ensures { OnOk result ((cases : List Case) (launched : Waves → ℕ → ℕ → Bool) →
+        HoldsOf so_far.now c.now cases → AreLaunches so_far.now c.now launched →
+        Adds notes.old notes.new (path_notes (ways_of so_far.now launched) c.now cases)) }
 {
     c.known();
-    let arrivals = arrivals(alloc, c, parts)?;
-    add_late(notes, c, &arrivals)?;
-    add_loops(notes, alloc, c, parts)?;
+    add_late(notes, c, &so_far.paths.latest)?;
+    add_loops(notes, alloc, c, &so_far.paths.parts)?;
     notes.append(&so_far.unknown)?;
-    add_common(notes, alloc, c, parts, &so_far.skews)?;
+    add_common(notes, c, &so_far.paths.ticks)?;
     Ok(())
 }
 
-/// The reply with all notes on a circuit, by the names that its drawing spreads and by what its
-/// cases tell. Where memory runs out, or there are more notes than numbers of 32 bits, it is
-/// `NoMemory`.
+/// The reply with all notes on a circuit, by what is kept of its drawing and by what its cases tell.
+/// Where memory runs out, or there are more notes than numbers of 32 bits, it is `NoMemory`.
 pub fn report(
     alloc: Global,
     c: &Circuit,
-    version: u8,
-    spreads: &[Spread],
+    kept: &Kept,
     so_far: &SoFar,
 ) -> Result<Reply<Outcome>, NoMemory>
-    requires { length so_far.now.acts.items ≡ length c.now.instances }
+    requires { (cases : List Case) × HoldsOf so_far.now c.now cases }
     ensures { IfOk result (λ reply. (base : ℕ) (cases : List Case) →
         HoldsOf so_far.now c.now cases →
-        AreNotes version spreads.now c.now base cases reply.outcome reply.bytes) }
+        AreNotes kept.now c.now base cases reply.outcome reply.bytes) }
 {
     let mut bytes = Bytes::new(alloc);
-    write_period(c, version, &mut bytes)?;
+    write_period(c, kept.version, &mut bytes)?;
     let mut notes = Notes::new(bytes);
-    add_single(&mut notes, alloc, c, spreads, so_far)?;
-    let parts = parts(alloc, c)?;
-    add_paths(&mut notes, alloc, c, &parts, so_far)?;
+    add_single(&mut notes, alloc, c, so_far)?;
+    add_drawn(&mut notes, alloc, c, kept)?;
+    add_paths(&mut notes, alloc, c, so_far)?;
     let count = notes.count();
     if count > MOST_NOTES {
         return Err(NoMemory);

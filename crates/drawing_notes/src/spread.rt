@@ -1,4 +1,4 @@
-//! The names that one use spreads.
+//! What is found where a drawing is expanded, and the names that one use spreads.
 
 ghost use Rattle.std.specs.Prelude.{◌≡◌, ◌++◌, IfOk, OnOk, map};
 ghost use Rattle.std.specs.Option.{option_copied};
@@ -18,7 +18,7 @@ use scald_base::{Bytes, List, NoMemory, Place};
 use std::alloc::Global;
 
 /// A name that is spread.
-#[derive(Drop, PartialEq, Eq, Debug)]
+#[derive(Drop)]
 pub struct Spread {
     /// Where its connection stands.
     pub place: Place,
@@ -28,8 +28,24 @@ pub struct Spread {
     pub width: usize,
 }
 
-/// Names that are spread, in the order of expansion.
-pub type Spreads = List<Spread>;
+/// A FOR that is reached.
+#[derive(Clone, Copy)]
+pub struct Reached {
+    /// Where it stands.
+    pub place: Place,
+    /// Whether its variable takes a value there.
+    pub has_turn: bool,
+}
+
+/// What is found where a drawing is expanded.
+#[derive(Drop)]
+pub enum Finding {
+    Spread(Spread),
+    Loop(Reached),
+}
+
+/// What is found, in the order of expansion.
+pub type Findings = List<Finding>;
 
 /// The name of a connection that is a name alone, without a range and on no formal.
 fn lone_name<'a>(scope: &Scope, terms: &'a [Term]) -> Option<&'a SignalName>
@@ -59,7 +75,7 @@ fn net_name(alloc: Global, scope: &Scope, name: &SignalName) -> Result<Bytes, No
 
 /// Appends the name of a connection that is spread over so many bits, if it is one.
 fn add_spread(
-    found: &mut Spreads,
+    found: &mut Findings,
     alloc: Global,
     scope: &Scope,
     width: usize,
@@ -72,18 +88,18 @@ fn add_spread(
         return Ok(());
     }
     if let Some(name) = lone_name(scope, connection.terms.as_slice()) {
-        found.push(Spread {
+        found.push(Finding::Spread(Spread {
             place: connection.place,
             name: net_name(alloc, scope, name)?,
             width,
-        })?;
+        }))?;
     }
     Ok(())
 }
 
 /// Appends the names that a use of a primitive spreads.
 pub(crate) fn in_primitive(
-    found: &mut Spreads,
+    found: &mut Findings,
     alloc: Global,
     scope: &Scope,
     kind: Kind,
@@ -109,7 +125,7 @@ pub(crate) fn in_primitive(
 
 /// Appends the names that the inputs of a use of a macro spread over their formals.
 pub(crate) fn in_formals(
-    found: &mut Spreads,
+    found: &mut Findings,
     alloc: Global,
     scope: &Scope,
     shapes: &[Shape],

@@ -1,10 +1,10 @@
 //! Names without a range that are spread.
 
 ghost use Rattle.std.specs.Prelude.{◌≡◌, ◌∷◌, ◌||◌, [], ℕ, List, IfOk, OnOk, slice_get};
-ghost use Rattle.drawing_notes.specs.Spread.{AreNames, is_among, is_other_of, spread, spread_at, spread_line};
+ghost use Rattle.drawing_notes.specs.Spread.{AreNames, is_among, is_other_of, spread, spread_at, spread_on, spread_line};
 ghost use Rattle.drawing_notes.specs.Lines.{Adds};
 
-use crate::{Notes, Spread};
+use crate::{Finding, Notes, Spread};
 use flat_circuit::Circuit;
 use indexmap::IndexSet;
 use listing::Piece;
@@ -60,19 +60,35 @@ fn add_note(notes: &mut Notes, spread: &Spread) -> Result<(), NoMemory>
 }
 
 /// The same, where there are other bits of the name.
-fn add_spread_at(
+fn add_spread_on(
     notes: &mut Notes,
     c: &Circuit,
     names: &IndexSet<Vec<u8>>,
     spread: &Spread,
 ) -> Result<(), NoMemory>
     requires { AreNames c.now.nets names.now.keys }
-    ensures { OnOk result (Adds notes.old notes.new (spread_at c.now spread.now)) }
+    ensures { OnOk result (Adds notes.old notes.new (spread_on c.now spread.now)) }
 {
     if !names.contains(spread.name.as_slice()) {
         return Ok(());
     }
     add_note(notes, spread)
+}
+
+/// The same of what is found, where it is such a name.
+fn add_spread_at(
+    notes: &mut Notes,
+    c: &Circuit,
+    names: &IndexSet<Vec<u8>>,
+    finding: &Finding,
+) -> Result<(), NoMemory>
+    requires { AreNames c.now.nets names.now.keys }
+    ensures { OnOk result (Adds notes.old notes.new (spread_at c.now finding.now)) }
+{
+    match finding {
+        Finding::Spread(spread) => add_spread_on(notes, c, names, spread),
+        Finding::Loop(_) => Ok(()),
+    }
 }
 
 /// Appends the notes on names that are spread while there are other bits of them, in the order of
@@ -81,16 +97,16 @@ pub fn add_spread(
     notes: &mut Notes,
     alloc: Global,
     c: &Circuit,
-    spreads: &[Spread],
+    found: &[Finding],
 ) -> Result<(), NoMemory>
-    ensures { OnOk result (Adds notes.old notes.new (spread c.now spreads.now)) }
+    ensures { OnOk result (Adds notes.old notes.new (spread c.now found.now)) }
 {
-    if spreads.is_empty() {
+    if found.is_empty() {
         return Ok(());
     }
     let names = with_other_bits(alloc, c)?;
-    for spread in spreads {
-        add_spread_at(notes, c, &names, spread)?;
+    for finding in found {
+        add_spread_at(notes, c, &names, finding)?;
     }
     Ok(())
 }

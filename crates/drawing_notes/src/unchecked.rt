@@ -1,11 +1,14 @@
 //! Inputs of registers and latches that no checker sees.
 
-ghost use Rattle.std.specs.Prelude.{◌≡◌, slice_get, IfOk, OnOk};
+ghost use Rattle.std.specs.Prelude.{◌≡◌, false, slice_get, true, IfOk, OnOk};
+ghost use Rattle.std.specs.List.{list_any};
+ghost use Rattle.element_kinds.specs.Kinds.{check_of};
 ghost use Rattle.drawing_notes.specs.Lines.{Adds};
-ghost use Rattle.drawing_notes.specs.Unchecked.{AreSeen, is_among, sampling_of, seen_by, turned, unchecked, unchecked_at};
+ghost use Rattle.drawing_notes.specs.Unchecked.{AreSeen, across, is_across as spec_is_across, is_among, is_same, is_watched, sampling_of, seen_by, turned, unchecked, unchecked_at};
 
 use crate::notes::Notes;
 use crate::pins::{CLOCK, INPUT, is_inverted, is_latch, is_storage, pin_net};
+use element_kinds::Check;
 use flat_circuit::{Circuit, Instance, Kind};
 use indexmap::IndexSet;
 use listing::{Piece, instance_piece, net_piece};
@@ -18,6 +21,15 @@ pub struct Sampling {
     pub clock: u32,
     pub inverted: bool,
     pub input: u32,
+    /// From the rise of the clock to its fall.
+    pub across: bool,
+}
+
+/// Whether a kind checks from the rise of its clock to the fall.
+fn is_across(kind: Kind) -> bool
+    ensures { result ≡ spec_is_across (check_of kind) }
+{
+    matches!(kind.check(), Some(Check::RiseFall))
 }
 
 /// The clock and the input of an instance, where both are on nets.
@@ -32,6 +44,7 @@ fn sampling_of(instance: &Instance) -> Option<Sampling>
                 clock,
                 inverted: is_inverted(instance, CLOCK),
                 input,
+                across: is_across(instance.kind),
             }),
         },
     }
@@ -70,17 +83,52 @@ fn turned(sampling: Sampling) -> Sampling
     }
 }
 
-/// Whether storage of a kind has its input among what is seen: a register with the edge that clocks
-/// it, a latch with either edge of its enable.
+/// The same input from the rise of the clock to its fall.
+fn across(sampling: Sampling) -> Sampling
+    ensures { result ≡ across sampling }
+{
+    Sampling {
+        across: true,
+        ..sampling
+    }
+}
+
+/// Whether a latch has its input among what is seen: at the edge that closes it, or from edge to
+/// edge.
+fn is_closed(seen: &IndexSet<Sampling>, sampling: Sampling) -> bool
+    ensures { result ≡ is_watched (λ t. list_any (is_same t) seen.now.keys) true sampling }
+{
+    let closing = turned(sampling);
+    if seen.contains(&closing) {
+        return true;
+    }
+    if seen.contains(&across(sampling)) {
+        return true;
+    }
+    seen.contains(&across(closing))
+}
+
+/// Whether a register has its input among what is seen, at the edge that clocks it.
+fn is_clocked(seen: &IndexSet<Sampling>, sampling: Sampling) -> bool
+    ensures { result ≡ is_watched (λ t. list_any (is_same t) seen.now.keys) false sampling }
+{
+    if seen.contains(&sampling) {
+        return true;
+    }
+    seen.contains(&across(sampling))
+}
+
+/// Whether storage of a kind has its input among what is seen.
 fn is_among(seen: &IndexSet<Sampling>, kind: Kind, sampling: Option<Sampling>) -> bool
     ensures { result ≡ is_among seen.now.keys kind sampling }
 {
-    match sampling {
-        Some(sampling) => {
-            seen.contains(&sampling) || (is_latch(kind) && seen.contains(&turned(sampling)))
-        }
-        None => false,
+    let Some(sampling) = sampling else {
+        return false;
+    };
+    if is_latch(kind) {
+        return is_closed(seen, sampling);
     }
+    is_clocked(seen, sampling)
 }
 
 /// The note on an instance, where it is storage whose input is not seen.

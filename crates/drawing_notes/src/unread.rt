@@ -45,7 +45,7 @@ fn mark_instance(read: &mut NetSet, c: &Circuit, number: u32)
 }
 
 /// The nets that some pin is on.
-fn read_nets(alloc: Global, c: &Circuit) -> Result<NetSet, NoMemory>
+pub(crate) fn read_nets(alloc: Global, c: &Circuit) -> Result<NetSet, NoMemory>
     ensures { IfOk result (AreRead c.now.instances) }
 {
     let mut read = NetSet::new(alloc, c.net_count())?;

@@ -1,6 +1,7 @@
 //! Down the statements of a drawing, as its expansion goes.
 
-ghost use Rattle.std.specs.Prelude.{◌≡◌, ◌++◌, IfOk, OnOk};
+ghost use Rattle.std.specs.Prelude.{◌≡◌, ◌∷◌, [], ◌++◌, IfOk, OnOk};
+ghost use Rattle.drawing_notes.specs.declared.spread.Finding.{Finding};
 ghost use Rattle.drawing_tree.specs.Tree.{Use, drawing_of, for_of, if_of, statement_of, statements_of, use_of};
 ghost use Rattle.drawing_tree.specs.WellFormed.{IsWellFormed};
 ghost use Rattle.macro_expander.specs.Library.{LeadToMacros};
@@ -8,7 +9,7 @@ ghost use Rattle.drawing_notes.specs.Spreads.{spreads as spec_spreads};
 ghost use Rattle.drawing_notes.specs.Walk.{in_all, in_one};
 
 use crate::body::{body_scope, inside};
-use crate::spread::{Spreads, in_formals, in_primitive};
+use crate::spread::{Finding, Findings, Reached, in_formals, in_primitive};
 use drawing_tree::{Drawing, ForStmt, IfStmt, Stmt, UseStmt};
 use element_kinds::kind_named;
 use macro_expander::DEEPEST;
@@ -17,13 +18,13 @@ use macro_expander::library::Library;
 use macro_expander::range::value;
 use macro_expander::scope::Scope;
 use macro_expander::turn::{in_turn, loop_ends, turn_to};
-use scald_base::{NoMemory, Stop};
+use scald_base::{NoMemory, Place, Stop};
 use std::alloc::Global;
 
-/// Appends the names that statements spread, where uses may go so many levels deeper.
+/// Appends what is found in statements, where uses may go so many levels deeper.
 #[cycle(walk)]
 fn in_statements(
-    found: &mut Spreads,
+    found: &mut Findings,
     alloc: Global,
     library: &Library,
     statements: &[Stmt],
@@ -42,7 +43,7 @@ fn in_statements(
 
 #[cycle(walk)]
 fn in_statement(
-    found: &mut Spreads,
+    found: &mut Findings,
     alloc: Global,
     library: &Library,
     statement: &Stmt,
@@ -63,7 +64,7 @@ fn in_statement(
 
 #[cycle(walk)]
 fn in_if(
-    found: &mut Spreads,
+    found: &mut Findings,
     alloc: Global,
     library: &Library,
     choice: &IfStmt,
@@ -86,10 +87,19 @@ fn in_if(
     }
 }
 
-/// The body of a FOR for each value, upwards.
+/// Appends a FOR that is reached.
+fn add_loop(found: &mut Findings, place: Place, has_turn: bool) -> Result<(), NoMemory>
+    ensures { OnOk result (found.new ≡ found.old
+        ++ Finding.Loop (record { place = place; has_turn = has_turn }) ∷ []) }
+{
+    found.push(Finding::Loop(Reached { place, has_turn }))?;
+    Ok(())
+}
+
+/// A FOR, and its body for each value, upwards.
 #[cycle(walk)]
 fn in_for(
-    found: &mut Spreads,
+    found: &mut Findings,
     alloc: Global,
     library: &Library,
     repeated: &ForStmt,
@@ -108,8 +118,9 @@ fn in_for(
     let first = ends.0;
     let last = ends.1;
     if first > last {
-        return Ok(());
+        return add_loop(found, repeated.place, false);
     }
+    add_loop(found, repeated.place, true)?;
     let body = repeated.body.as_slice();
     let mut inner = in_turn(alloc, scope, repeated, first)?;
     let mut value = first;
@@ -124,7 +135,7 @@ fn in_for(
 /// The use of a primitive, or that of a macro: over its formals, and then in its body.
 #[cycle(walk)]
 fn in_use(
-    found: &mut Spreads,
+    found: &mut Findings,
     alloc: Global,
     library: &Library,
     used: &UseStmt,
@@ -158,14 +169,14 @@ fn in_use(
     in_statements(found, alloc, library, &definition.body, &inner, levels - 1)
 }
 
-/// The names that are spread where a drawing is expanded, in the order of expansion. What is
-/// refused has none: a drawing is expanded first, and refused there. `NoMemory` comes where memory
-/// runs out.
-pub fn spreads(alloc: Global, drawing: &Drawing) -> Result<Spreads, NoMemory>
+/// What is found where a drawing is expanded, in the order of expansion: the names that are spread,
+/// and the FORs that are reached. What is refused has none: a drawing is expanded first, and refused
+/// there. `NoMemory` comes where memory runs out.
+pub fn spreads(alloc: Global, drawing: &Drawing) -> Result<Findings, NoMemory>
     requires { IsWellFormed (drawing_of drawing.now) }
     ensures { IfOk result (λ found. found ≡ spec_spreads (drawing_of drawing.now)) }
 {
-    let mut found = Spreads::new(alloc);
+    let mut found = Findings::new(alloc);
     let consts = match constants(alloc, &drawing.consts, &drawing.const_places) {
         Ok(consts) => consts,
         Err(Stop::Refused(_)) => return Ok(found),

@@ -1,16 +1,15 @@
 use Rattle.std.proofs.Common.{◌≡◌, ◌∙◌, Bool, List, length, ap, sym, subst, refl, arith}
 use Rattle.std.proofs.lemmas.List.{length-set}
 use Rattle.fixpoint_engine.specs.Settled.{marked_in}
-use Rattle.drawing_notes.specs.Parts.{together}
-use Rattle.drawing_notes.specs.Paths.{is_looped}
+use Rattle.fixpoint_engine.specs.Waves.{waves_of}
 use Rattle.drawing_notes.specs.Common.{skew_at}
 use Rattle.drawing_notes.specs.Doubts.{AreDoubts, IsLaunched}
 use Rattle.drawing_notes.proofs.Doubting.{at, clock_exists, doubt_inside, marked_all, marked_more, doubted}
 use Rattle.drawing_notes.proofs.common.common_checkers.Goals as goal
 
 pub find_launched-requires-clause-exists : goal.find_launched-requires-clause-exists
-find_launched-requires-clause-exists c =
-    let circuit = c.args.c.now in
+find_launched-requires-clause-exists g c =
+    let circuit = c.args.view.now.circuit.now in
     let skew = skew_at c.args.skews.now in
     let list = c.as_slice-doubt-items.result.now in
     let are : AreDoubts circuit skew list = subst (AreDoubts circuit skew) (sym c.as_slice-doubt-items.ensures.value) c.in_ok-doubts.ensures in
@@ -18,8 +17,8 @@ find_launched-requires-clause-exists c =
     clock_exists circuit skew d.checker d c.known.ensures (doubted circuit skew list are c.loop-doubt.doubt-index c.loop-doubt-test.true)
 
 pub index_mut-requires : goal.index_mut-requires
-index_mut-requires c =
-    let circuit = c.args.c.now in
+index_mut-requires g c =
+    let circuit = c.args.view.now.circuit.now in
     let skew = skew_at c.args.skews.now in
     let list = c.as_slice-doubt-items.result.now in
     let are : AreDoubts circuit skew list = subst (AreDoubts circuit skew) (sym c.as_slice-doubt-items.ensures.value) c.in_ok-doubts.ensures in
@@ -29,34 +28,37 @@ index_mut-requires c =
     omega (arith, inside, long, c.loop-doubt.common.ok.0)
 
 pub loop-doubt-preserved : goal.loop-doubt-preserved
-loop-doubt-preserved c =
-    let circuit = c.args.c.now in
+loop-doubt-preserved g c =
+    let circuit = c.args.view.now.circuit.now in
     let skew = skew_at c.args.skews.now in
     let list = c.as_slice-doubt-items.result.now in
     let are : AreDoubts circuit skew list = subst (AreDoubts circuit skew) (sym c.as_slice-doubt-items.ensures.value) c.in_ok-doubts.ensures in
     let n = c.loop-doubt.doubt-index in
     let d = at circuit skew list n in
-    let looped = is_looped (together c.args.parts.now) in
+    let ws = waves_of c.args.view.now.waves.now in
     let marks = c.find_launched.new.found.marks in
-    let found = c.in_ok-find_launched.ensures.is looped c.in_ok-unlooped.ensures c.loop-doubt.invariant.was_found in
     record {
       long = length-set c.loop-doubt.common.items d.checker c.has.result ∙ c.loop-doubt.invariant.long;
       each_net = c.in_ok-find_launched.ensures.each_net;
-      was_found = λ clock is. (let same : d.clock ≡ clock = cc in subst (λ m. IsLaunched circuit looped m marks) same found);
-      marked = λ launched tells.
+      was_found = λ looped sees clock is.
+          let found = c.in_ok-find_launched.ensures.is looped sees (c.loop-doubt.invariant.was_found looped sees) in
+          let same : d.clock ≡ clock = cc in
+          subst (λ m. IsLaunched circuit looped ws m marks) same found;
+      marked = λ looped launched sees tells.
+          let found = c.in_ok-find_launched.ensures.is looped sees (c.loop-doubt.invariant.was_found looped sees) in
           marked_more circuit skew list are launched n c.loop-doubt.common.items _ c.has.result c.loop-doubt-test.true
           (c.has.ensures ∙ ap (λ (ms : List Bool). marked_in ms d.input) c.set.ensures ∙ sym (found launched tells d.input)) refl
-          (c.loop-doubt.invariant.marked launched tells);
+          (c.loop-doubt.invariant.marked looped launched sees tells);
     }
 
 pub returns-clause-long : goal.returns-clause-long
-returns-clause-long c = c.loop-doubt.invariant.long
+returns-clause-long g c = c.loop-doubt.invariant.long
 
 pub returns-clause-are : goal.returns-clause-are
-returns-clause-are c = λ launched tells.
-    let circuit = c.args.c.now in
+returns-clause-are g c = λ looped launched sees tells.
+    let circuit = c.args.view.now.circuit.now in
     let skew = skew_at c.args.skews.now in
     let list = c.as_slice-doubt-items.result.now in
     let are : AreDoubts circuit skew list = subst (AreDoubts circuit skew) (sym c.as_slice-doubt-items.ensures.value) c.in_ok-doubts.ensures in
     let whole : c.loop-doubt.doubt-index ≡ length list = omega (arith, c.loop-doubt-test.false, c.loop-doubt.auto.doubt-index-end) in
-    marked_all circuit skew list are launched c.loop-doubt.doubt-index c.loop-doubt.common.items whole (c.loop-doubt.invariant.marked launched tells)
+    marked_all circuit skew list are launched c.loop-doubt.doubt-index c.loop-doubt.common.items whole (c.loop-doubt.invariant.marked looped launched sees tells)

@@ -1,9 +1,10 @@
-use Rattle.std.proofs.Common.{◌≡◌, ℕ, take}
-use Rattle.drawing_notes.specs.Arrivals.{AreSmall, IsBehind, arrival_at, latest_at}
+use Rattle.std.proofs.Common.{◌≡◌, ◌*◌, ◌+◌, ℕ}
+use Rattle.fixpoint_engine.specs.Waves.{waves_of}
+use Rattle.drawing_notes.specs.Arrivals.{AreSmall, IsUpTo, edges_at, latest_to}
 use Rattle.drawing_notes.proofs.launched.latest_at.Given as goal
 
-abbrev pub invariant-loop-pin : goal.invariant-loop-pin
-invariant-loop-pin l = record {
-  is : l.latest ≡ latest_at l.c (arrival_at l.arrivals) (take l.pin-index l.pins);
-  small : (steps : ℕ) → AreSmall steps l.arrivals → IsBehind steps l.latest;
+abbrev pub invariant-loop-place : goal.invariant-loop-place
+invariant-loop-place g l = record {
+  is : l.latest ≡ latest_to l.c l.held (waves_of l.waves) (edges_at l.edges) l.instance l.rise l.place;
+  small : (steps : ℕ) → AreSmall steps l.edges → IsUpTo (131070 * steps + 65535) l.latest;
 }

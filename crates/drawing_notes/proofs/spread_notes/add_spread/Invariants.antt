@@ -4,5 +4,5 @@ use Rattle.drawing_notes.specs.Lines.{Adds}
 use Rattle.drawing_notes.specs.Spread.{spread_at}
 use Rattle.drawing_notes.proofs.spread_notes.add_spread.Given as goal
 
-abbrev pub invariant-loop-spread : goal.invariant-loop-spread
-invariant-loop-spread l = Adds l.fn.notes l.notes (flat_map (spread_at l.c) (take l.spread-index l.spreads))
+abbrev pub invariant-loop-finding : goal.invariant-loop-finding
+invariant-loop-finding l = Adds l.fn.notes l.notes (flat_map (spread_at l.c) (take l.finding-index l.found))

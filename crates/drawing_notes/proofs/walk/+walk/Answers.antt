@@ -7,11 +7,11 @@ use Rattle.std.proofs.lemmas.Result.{on_ok_weaker}
 use Rattle.drawing_tree.specs.declared.statement.Stmt.{Stmt}
 use Rattle.drawing_tree.specs.Tree.{Macro, for_of, macro_of, statements_of, use_of}
 use Rattle.macro_expander.specs.Library.{macros_in}
-use Rattle.drawing_notes.specs.declared.spread.Spread.{Spread}
+use Rattle.drawing_notes.specs.declared.spread.Finding.{Finding}
 use Rattle.drawing_notes.specs.Spreads.{inside_at}
 use Rattle.drawing_notes.specs.Walk.{in_one, seen}
 use Rattle.drawing_notes.proofs.SpreadSizes.{found_below, level_smaller, one_smaller, size_of_all}
-use Rattle.drawing_notes.proofs.Turning.{for_turns, turns_done, turns_more}
+use Rattle.drawing_notes.proofs.Turning.{begun, turns_done, turns_more}
 use Rattle.drawing_notes.proofs.Using.{no_body, of_macro, ranges, used_macro}
 use Rattle.drawing_notes.proofs.walk.+walk.Goals as goal
 
@@ -30,8 +30,8 @@ in_for-turns-init t c =
     let last : to_z w64 (of_z w64 c.in-Ok.ends.1) ≡ c.in-Ok.ends.1 = omega (arith, ints) in
     record {
       found_so =
-          rw (first, last) (ap (λ (s : List Spread). c.args.found.now ++ s)
-          (sym (for_turns c.args.library.now c.args.levels c.args.repeated.now c.args.scope.now c.in-Ok.ends.0 c.in-Ok.ends.1 c.in-Ok.ensures)));
+          rw (first, last) (begun c.args.library.now c.args.levels c.args.repeated.now c.args.scope.now c.in-Ok.ends.0 c.in-Ok.ends.1 c.in-Ok.ensures
+          (omega (arith, ints, c.if-first-last.false)) c.args.found.now c.add_loop-2.new.found c.in_ok-add_loop.ensures);
       inner = c.in_ok-inner.ensures;
       within = omega (arith, ints, c.if-first-last.false);
     }
@@ -77,7 +77,7 @@ in_use-returns-then-levels-eq0 t c =
     let m = macro_of c.in-Some-find.definition.now in
     let is : Some c.in-Some-2.inside ≡ result_ok (inside_at l.consts m (seen c.args.scope.now) u) = sym c.in-Some-2.is ∙ c.in_ok-inside.ensures in
     rw (c.as_slice-3.ensures, c.as_slice-4.ensures) at c.in_ok-in_formals.ensures
-    ∙ ap (λ (s : List Spread). c.args.found.now ++ s)
+    ∙ ap (λ (s : List Finding). c.args.found.now ++ s)
     (sym (of_macro l c.args.levels u c.args.scope.now (Some m)
     (rw c.as_slice.ensures at c.in_default.ensures) (rw c.as_slice-2.ensures at c.in-Some-find.ensures)
     ∙ no_body l c.args.levels u c.args.scope.now m c.in-Some-2.inside is c.if-levels-eq0.true))

@@ -15,11 +15,8 @@ returns-clause-holds g c =
     ))
     c.add_case.ensures
 
-pub add_case-requires-clause-each_instance : goal.add_case-requires-clause-each_instance
-add_case-requires-clause-each_instance g c = c.requires.ready.1.each_instance
-
-pub add_case-requires-clause-each_net : goal.add_case-requires-clause-each_net
-add_case-requires-clause-each_net g c = c.requires.ready.1.each_net
+pub add_case-requires-clause-ready : goal.add_case-requires-clause-ready
+add_case-requires-clause-ready g c = c.requires.ready
 
 pub returns-clause-ready : goal.returns-clause-ready
 returns-clause-ready g c =

@@ -8,12 +8,9 @@ pub returns : goal.returns
 returns c =
     IfOk-weaker c.report.result _ _
     (λ reply are asked kept base cases holds.
-    subst (λ (k : Kept). AreNotes k.version k.spreads c.args.circuit.now base cases reply.outcome
-    reply.bytes) holds.0
-    (subst (λ spreads. AreNotes c.args.self.kept.version spreads c.args.circuit.now base cases
-    reply.outcome reply.bytes)
-    c.as_slice-spreads.ensures (are base cases holds.1)))
+    subst (λ (k : Kept). AreNotes k c.args.circuit.now base cases reply.outcome reply.bytes) holds.0
+    (are base cases holds.1))
     c.report.ensures
 
 pub report-requires : goal.report-requires
-report-requires c = c.requires.1.1.each_instance
+report-requires c = c.requires.1

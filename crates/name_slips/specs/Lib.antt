@@ -1,0 +1,4 @@
+pub mod Slip
+pub mod Names
+pub mod Keys
+pub mod Table
