@@ -3,3 +3,4 @@ pub mod Bodies
 pub mod Finding
 pub mod Leading
 pub mod Assertions
+mod Examples

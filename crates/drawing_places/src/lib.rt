@@ -4,8 +4,7 @@
 //! A circuit keeps the paths of its nets and instances, and the lines of its instances. A label
 //! stands once in a body, so a path and the drawing give the rest: [`scope_of`] finds the uses that
 //! a scope is in, and [`spot_of`] the first place of a name. `specs/Path` says what the parts of a
-//! path are, `specs/Uses` and
-//! `specs/Names` what is found.
+//! path are, `specs/Uses` and `specs/Names` what is found.
 #![tactic(auto)]
 
 // paths

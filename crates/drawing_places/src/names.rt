@@ -52,7 +52,7 @@ fn is_wanted(name: &SignalName, wanted: Wanted) -> bool
     is_same_assertion(&name.spec, wanted.spec)
 }
 
-/// A place, where the name is the one that is looked for.
+/// A place, if the name is the one that is looked for.
 fn spot_at<'a>(name: &'a SignalName, place: Place, wanted: Wanted) -> Option<Spot<'a>>
     ensures { option_map spot_seen result ≡ spot_where (sought_seen wanted.entry) place name.now }
 {

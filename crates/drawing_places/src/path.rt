@@ -27,8 +27,7 @@ pub fn is_global_text(text: &[u8]) -> bool
 }
 
 /// The first label of a scope, in front of what a FOR puts behind it, and what follows the slash
-/// after it;
-/// `None` where there is no slash.
+/// after it; `None` if there is no slash.
 pub fn split_label(scope: &[u8]) -> Option<(&[u8], &[u8])>
     ensures some { IfSome result (λ parts.
         labels_of scope.now ≡ parts.0.now ∷ labels_of parts.1.now) }

@@ -24,7 +24,7 @@ pub struct Scope<'a> {
     pub body: &'a [Stmt],
 }
 
-/// A use, where it has a label.
+/// A use, if it has a label.
 fn use_labelled<'a>(statement: &'a Stmt, label: &[u8]) -> Option<&'a UseStmt>
     ensures { option_map use_of (option_copied result)
         ≡ use_labelled label.now (statement_of statement.now) }
@@ -62,7 +62,7 @@ fn macro_named<'a>(drawing: &'a Drawing, name: &[u8]) -> Option<&'a MacroDef>
     None
 }
 
-/// The statements of the macro of a name; none where there is no such macro.
+/// The statements of the macro of a name; none if there is no such macro.
 fn body_of<'a>(drawing: &'a Drawing, name: &[u8]) -> &'a [Stmt]
     ensures { statements_of result.now
         ≡ body_in (first_called name.now (map macro_in drawing.now.macros)) }

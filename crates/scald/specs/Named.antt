@@ -1,5 +1,5 @@
 -- Which main call the first word names, what its answer is, and the status of that.
-use Rattle.std.specs.Prelude.{ℕ, List, [], ◌∷◌, codes, if◌then◌else◌}
+use Rattle.std.specs.Prelude.{◌≡◌, ℕ, List, [], ◌∷◌, codes, if◌then◌else◌}
 use Rattle.std.specs.Str.{bytes_eq}
 use Rattle.program_call.specs.Call.{Devices, IsCall, nothing_more}
 use Rattle.scald_base.specs.declared.outcome.Outcome.{Outcome}
@@ -78,3 +78,11 @@ abbrev pub status_of : Answer → ℕ
 status_of (answer.Drawing o) = outcome_status o
 status_of (answer.Sections o) = sections_status o
 status_of (answer.Run o) = trace_status o
+
+-- A program that was called with these words ends with this status: that of the answer to them,
+-- with what that did to its devices.
+pub record EndsWith {S K : Type 0} (status : ℕ) (words : List (List ℕ)) (d : Devices S K)
+    (source source' : S) (sink sink' : K) : Type 0 where
+  pub answer : Answer
+  pub call : IsAnswerOf (call_of words) words answer d source source' sink sink'
+  pub ended : status ≡ status_of answer

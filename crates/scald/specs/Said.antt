@@ -1,4 +1,4 @@
--- With which status the program ends where it has no words. No outcome has the status 20.
+-- With which status the program ends if it has no words. No outcome has the status 20.
 use Rattle.std.specs.Prelude.{ℕ}
 use Rattle.scald.specs.declared.unstarted.Unstarted.{Unstarted}
 use Rattle.scald.specs.declared.unstarted.Unstarted.TheVariants.{NoArguments, NoMemory}

@@ -1,6 +1,6 @@
 //! The timing verifier as a program: it reads a drawing, or several, from standard input and writes
 //! the report to standard output. Its words are its arguments, and it ends with the status of the
-//! outcome. Where there is no answer to the drawing, standard error says why, and what may help;
+//! outcome. If there is no answer to the drawing, standard error says why, and what may help;
 //! standard output has the answer alone.
 //!
 //! The first word names a main call: `notes` is `drawing_notes::notes_main`, `margins` is
@@ -12,7 +12,8 @@
 
 ghost use Rattle.std.specs.Prelude.{◌≡◌};
 ghost use Rattle.std.specs.Process.{exit_status};
-ghost use Rattle.scald.specs.Named.{status_of};
+ghost use Rattle.program_call.specs.Call.{devices};
+ghost use Rattle.scald.specs.Named.{EndsWith, status_of};
 ghost use Rattle.scald.specs.Said.{unstarted_status};
 
 mod named;
@@ -23,7 +24,7 @@ mod unstarted;
 use diagnostics::KeptSource;
 use named::{Answer, answer_to};
 use said::{say, say_answer, say_undriven};
-use scald_base::{Outcome, StdSink, StdSource};
+use scald_base::{Outcome, Sink, Source, StdSink, StdSource};
 use scald_tool::{Words, words_of};
 use std::io::Eprint;
 use std::process::ExitCode;
@@ -62,6 +63,24 @@ fn end(
     ExitCode::from(answer.status())
 }
 
+/// Answers these words over any source and any sink, and gives the status of the outcome.
+fn answered<S: Source, K: Sink>(
+    rt: &(impl Eprint + AllocGlobal),
+    words: &Words,
+    source: &mut KeptSource<S>,
+    sink: &mut K,
+) -> ExitCode
+    ensures { EndsWith (exit_status result) words.now
+        (devices ⟦<KeptSource<S> as Source>⟧.left ⟦<KeptSource<S> as Source>⟧.faults
+        K.taken K.faults) source.old source.new sink.old sink.new }
+{
+    let mut undriven = 0;
+    let answer = answer_to(rt.alloc(), words, source, sink, &mut undriven);
+    end(rt, words, source.kept(), &answer, undriven)
+}
+
+// No clause says that the words are the process' arguments and the devices its standard streams:
+// std's contracts name neither.
 fn main(rt: HostRuntime) -> ExitCode {
     let words = match words(&rt) {
         Ok(words) => words,
@@ -69,7 +88,5 @@ fn main(rt: HostRuntime) -> ExitCode {
     };
     let mut source = KeptSource::new(rt.alloc(), StdSource::new(rt.reader()));
     let mut sink = StdSink::new(io::writer(&rt));
-    let mut undriven = 0;
-    let answer = answer_to(rt.alloc(), &words, &mut source, &mut sink, &mut undriven);
-    end(&rt, &words, source.kept(), &answer, undriven)
+    answered(&rt, &words, &mut source, &mut sink)
 }

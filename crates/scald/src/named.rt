@@ -106,7 +106,7 @@ pub fn answer_to<S: Source, K: Sink>(
         call_of words.now ≡ Call.Tool → result ≡ Answer.Drawing o → has_report o ≡ true →
         FaultlessNeverBreaks text) }
 
-    // The same of `slack` and `explain`, where no limit is broken.
+    // The same of `slack` and `explain`, if no limit is broken.
     ensures met { IfSome (S.left source.old) (λ text. call_of words.now ≡ Call.Slacks →
         result ≡ Answer.Drawing Outcome.Clean → NeverBreaks text) }
 

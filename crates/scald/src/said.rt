@@ -1,6 +1,6 @@
 //! What the program says on standard error: why it ends without an answer to the drawing, and
 //! beside an answer which nets cross between sections, and how many nets are taken as constant. The
-//! status tells what matters, so nothing is promised of these lines.
+//! status says what matters, so nothing is promised of these lines.
 
 use crate::named::Answer;
 use crate::traced::say_trace;
@@ -26,37 +26,37 @@ pub const FORMS: &str = "usage:
     scald judge F <TRACE-AND-DRAWING                   whether the trace is a run, and what breaks in it from tick F on
     scald bench N                                      what is found in a made drawing of N sections, 1 to 200";
 
-/// What is said where memory ran out.
+/// What is said if memory ran out.
 pub const NO_MEMORY: &str = "scald: there is not enough memory";
 
-/// What is said where reading failed.
+/// What is said if reading failed.
 pub const UNREAD: &str = "scald: standard input could not be read";
 
-/// What is said where writing failed.
+/// What is said if writing failed.
 pub const UNWRITTEN: &str = "scald: standard output could not be written";
 
-/// What is said where the waves do not settle, and the words set no limit.
+/// What is said if the waves do not settle, and the words set no limit.
 const UNSETTLED: &str =
     "scald: the net that is named still changes after the last round: a loop leads to it
     rounds=N with a greater N, of at most 10000000, allows more rounds";
 
-/// What is said where the waves do not settle in the rounds that are asked for.
+/// What is said if the waves do not settle in the rounds that are asked for.
 const UNSETTLED_WITHIN: &str =
     "scald: the net that is named still changes after the rounds that rounds=N allows
     a greater N, of at most 10000000, allows more rounds";
 
-/// What is said where the waves of a section do not settle.
+/// What is said if the waves of a section do not settle.
 const UNSETTLED_SECTION: &str =
     "scald: the net that is named still changes after the last round: a loop leads to it
     verify of that section alone takes rounds=N, which allows more rounds";
 
-/// What is said where more bytes came than a text may have.
+/// What is said if more bytes came than a text may have.
 const TOO_LONG: &str = "scald: the drawing has more than 4194304 bytes";
 
-/// What is said where there are too few or too many sections.
+/// What is said if there are too few or too many sections.
 const BAD_COUNT: &str = "scald: there should be 2 to 64 sections, with a line ===== between them";
 
-/// Says why there is no answer. The status tells it too, so it does not matter where standard error
+/// Says why there is no answer. The status says it too, so it does not matter if standard error
 /// fails.
 pub fn say(rt: &impl Eprint, why: &str) {
     let _ = rt.eprintln(why);
@@ -67,19 +67,19 @@ pub fn say_lines(rt: &impl Eprint, lines: &Lines) {
     let _ = rt.eprint(lines.as_str());
 }
 
-/// Says what is wrong with a text that is refused, where it was kept.
+/// Says what is wrong with a text that is refused, if it was kept.
 pub fn say_refusal(rt: &(impl Eprint + AllocGlobal), text: Option<&[u8]>, refusal: Refusal) {
     if let Some(text) = text {
         say_lines(rt, &explain_refusal(rt.alloc(), text, refusal));
     }
 }
 
-/// Says how many nets have neither a driver nor an assertion, where there are some.
+/// Says how many nets have neither a driver nor an assertion, if there are some.
 pub fn say_undriven(rt: &(impl Eprint + AllocGlobal), count: u32) {
     say_lines(rt, &explain_undriven(rt.alloc(), count));
 }
 
-/// Why an outcome is no answer to the drawing, where there is something to say of all texts.
+/// Why an outcome is no answer to the drawing, if there is something to say of all texts.
 fn why(outcome: &Outcome, is_limited: bool) -> Option<&'static str> {
     match outcome {
         Outcome::BadWords(_) => Some(FORMS),
@@ -110,7 +110,7 @@ fn why_of_sections(outcome: &SectionsOutcome) -> Option<&'static str> {
     }
 }
 
-/// Says why there is no answer to the drawing, where there is none.
+/// Says why there is no answer to the drawing, if there is none.
 fn say_outcome(
     rt: &(impl Eprint + AllocGlobal),
     words: &Words,
@@ -139,7 +139,7 @@ fn say_section(rt: &(impl Eprint + AllocGlobal), text: &[u8], section: u32, refu
     }
 }
 
-/// Says what is wrong with sections, where that is known, or else which nets cross between them.
+/// Says what is wrong with sections, if that is known, or else which nets cross between them.
 fn say_together(rt: &(impl Eprint + AllocGlobal), text: &[u8], outcome: &SectionsOutcome) {
     match outcome {
         SectionsOutcome::Refused { section, refusal } => say_section(rt, text, *section, *refusal),
@@ -151,7 +151,7 @@ fn say_together(rt: &(impl Eprint + AllocGlobal), text: &[u8], outcome: &Section
     }
 }
 
-/// Says why there is no answer to sections, where there is none, and what there is to say of their
+/// Says why there is no answer to sections, if there is none, and what there is to say of their
 /// text.
 fn say_sections(
     rt: &(impl Eprint + AllocGlobal),
@@ -170,7 +170,7 @@ fn say_sections(
     }
 }
 
-/// Says why there is no answer, where there is none: `text` is what was read, where that was kept.
+/// Says why there is no answer, if there is none: `text` is what was read, if that was kept.
 pub fn say_answer(
     rt: &(impl Eprint + AllocGlobal),
     words: &Words,

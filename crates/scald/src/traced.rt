@@ -1,4 +1,4 @@
-//! What the program says on standard error where the simulator ends without an answer.
+//! What the program says on standard error if the simulator ends without an answer.
 
 use crate::said::{FORMS, NO_MEMORY, UNREAD, UNWRITTEN, say, say_lines, say_refusal};
 use diagnostics::{Lines, Part, explain_words};
@@ -7,7 +7,7 @@ use std::alloc::Global;
 use std::io::Eprint;
 use trace_tool::{TraceOutcome, split_trace};
 
-/// Why an outcome is no answer, or None where there is nothing to say that has no number.
+/// Why an outcome is no answer, or None if there is nothing to say that has no number.
 fn why(outcome: &TraceOutcome) -> Option<&'static str> {
     match outcome {
         TraceOutcome::BadWords(_) => Some(FORMS),
@@ -27,7 +27,7 @@ fn why(outcome: &TraceOutcome) -> Option<&'static str> {
     }
 }
 
-/// Which line of a trace is wrong, from 1, or that none ends it where the number is 0.
+/// Which line of a trace is wrong, from 1, or that none ends it if the number is 0.
 fn explain_line(alloc: Global, number: u32) -> Lines {
     let mut out = Lines::new(alloc);
     if number == 0 {
@@ -52,7 +52,7 @@ fn explain_cases(alloc: Global, count: u32) -> Lines {
     out
 }
 
-/// The drawing in a text: what follows the trace where a trace is judged, and else all of it.
+/// The drawing in a text: what follows the trace if a trace is judged, and else all of it.
 fn drawing_of<'a>(words: &Words, text: &'a [u8]) -> &'a [u8] {
     let [first, ..] = words.as_slice() else {
         return text;
@@ -66,7 +66,7 @@ fn drawing_of<'a>(words: &Words, text: &'a [u8]) -> &'a [u8] {
     }
 }
 
-/// Says why the simulator has no answer, where it has none: `text` is what was read, where that was
+/// Says why the simulator has no answer, if it has none: `text` is what was read, if that was
 /// kept.
 pub fn say_trace(
     rt: &(impl Eprint + AllocGlobal),

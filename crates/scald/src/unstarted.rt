@@ -12,7 +12,7 @@ use std::io;
 /// Why the program cannot begin.
 #[derive(Clone, Copy, Debug)]
 pub enum Unstarted {
-    /// The system does not give the arguments, or not as text.
+    /// The arguments are unavailable, or not text.
     NoArguments,
     /// There is no memory for them.
     NoMemory,
