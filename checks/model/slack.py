@@ -170,6 +170,7 @@ class Path:
     end: str = ""
     ideal: int = 0
     wire: int = 0
+    cut: int = 0  # by how much a cut shows it apart from the sum
 
     @property
     def begin(self):
@@ -281,7 +282,7 @@ def trace(view, net, change, tick, late):
 def trace_pin(view, pin, change, tick, late):
     wire, _is_corner = wire_at(view, pin, change, tick, late)
     path = trace(view, pin.on, flip_if(change, pin.is_complemented), tick - wire, late)
-    path.wire = wire
+    path.wire, path.cut = wire, tick - wire - path.links[0].tick
     return path
 
 
@@ -977,7 +978,8 @@ class Writer:
             event = f"{name} {VERB[link.change]}"
             lines.append(f"{link.tick + moved:12d} {took:>6}  {event:<{wide}} {tail}")
         if path.wire:
-            lines.append(f"{path.links[0].tick + path.wire + moved:12d} {f'+{path.wire}':>6}  at the pin, by its wire")
+            shown_at = path.links[0].tick + path.wire + path.cut + moved
+            lines.append(f"{shown_at:12d} {f'+{path.wire}':>6}  at the pin, by its wire")
         return lines
 
     def line(self, limit):
