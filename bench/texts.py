@@ -348,7 +348,7 @@ def accepted(size):
 
 
 # Of each kind of refusal a mistake that stands at the end of a drawing, as its last lines or after it; or in the
-# header, where nothing else can be refused so.
+# header, if nothing else can be refused so.
 MISTAKES = {
     "BadByte": {"lines": ["-- caf\xe9"]},
     "BadToken": {"lines": ['last : BUF [0:0] ("A) -> ("X");']},

@@ -1,6 +1,6 @@
 #!/bin/sh
 # What standard error says beside an answer: to sections that are joined, which global nets cross, which no section
-# drives and which no other takes; to one drawing, how many nets nothing determines. Usage: checks/asides.sh [PROGRAM]. Where none is named and none is built it says so and ends
+# drives and which no other takes; to one drawing, how many nets nothing determines. Usage: checks/asides.sh [PROGRAM]. If none is named and none is built it says so and ends
 # with 0.
 . "$(dirname -- "$0")/common.sh"
 begin "${1-}"

@@ -14,8 +14,8 @@
 # period of 8 units of 50 ticks, the first of them on line 4 of its text; below `drawing in version 2:` those of one in
 # version 2 of the language; and below `text:` a whole text. Drawings that are sections have a line ===== between them.
 # A line of a text that ends in \r ends in the bytes 13 and 10, and one that ends in \ has no end of line. After the
-# status stands `unread` where nothing is read, and below it standard output.
-# Usage: checks/calls.sh [PROGRAM]. Where none is named and none is built it says so and ends with 0.
+# status stands `unread` if nothing is read, and below it standard output.
+# Usage: checks/calls.sh [PROGRAM]. If none is named and none is built it says so and ends with 0.
 . "$(dirname -- "$0")/common.sh"
 begin "${1-}"
 

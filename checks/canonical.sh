@@ -1,7 +1,7 @@
 #!/bin/sh
 # Small texts, each with the canonical text of what it draws, one for each way to write a part of a drawing: what
 # `format` answers, and that it answers the canonical text with that text itself.
-# Usage: checks/canonical.sh [PROGRAM]. Where none is named and none is built it says so and ends with 0.
+# Usage: checks/canonical.sh [PROGRAM]. If none is named and none is built it says so and ends with 0.
 . "$(dirname -- "$0")/common.sh"
 begin "${1-}"
 

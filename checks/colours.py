@@ -21,7 +21,7 @@ KINDS = (
     "SETUP_HOLD_CHK SETUP_RISE_HOLD_FALL_CHK MIN_PULSE_CHK"
 ).split()
 PARAMETERS = "SETUP HOLD HIGH LOW".split()
-# what each class of tokens is called in a TextMate grammar, and in Vim, where some have no colour of their own
+# what each class of tokens is called in a TextMate grammar, and in Vim, if some have no colour of their own
 CALLED = {
     "comment": ("comment.line.double-dash.scald", "scaldComment"),
     "name": ("string.quoted.double.scald", "scaldName"),

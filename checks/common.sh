@@ -6,7 +6,7 @@ check=checks/$(basename -- "$0")
 top=$(CDPATH='' cd -- "$(dirname -- "$0")/.." && pwd) || exit 2
 
 # begin [PROGRAM]: sets $program, the one to be tried, and $work, an empty folder that is gone when the check ends.
-# Where a program is named and is not there, the check fails. Where none is named and none is built, it says so and
+# If a program is named and is not there, the check fails. If none is named and none is built, it says so and
 # ends with 0.
 begin() {
     program=${1:-$top/crates/scald/out/scald}
@@ -39,7 +39,7 @@ lines() {
     echo $(($(wc -l <"$1")))
 }
 
-# ended [MORE]: says how many were tried and how many failed, and then MORE; ends the check with 0 where some were
+# ended [MORE]: says how many were tried and how many failed, and then MORE; ends the check with 0 if some were
 # tried and none failed
 ended() {
     echo "$check: $(lines "$work/tried") tried, $(lines "$work/failed") failed${1-}"

@@ -1,10 +1,10 @@
 #!/bin/sh
-# Compares the report, the margins and, where they stand beside it, the notes, the chains and the explanations of each
+# Compares the report, the margins and, if they stand beside it, the notes, the chains and the explanations of each
 # drawing of examples/ with those that stand beside it, and the status with the last line; and in examples/sections/ the
 # reports, and that of all sections together. A drawing of examples/ whose report has faults has chains and explanations,
 # and one without notes beside it has none. Beside these answers nothing is said on standard error. And what README.md
 # shows of the first of them is so.
-# Usage: checks/examples.sh [PROGRAM]. Where none is named and none is built it says so and ends with 0.
+# Usage: checks/examples.sh [PROGRAM]. If none is named and none is built it says so and ends with 0.
 . "$(dirname -- "$0")/common.sh"
 begin "${1-}"
 
@@ -49,7 +49,7 @@ for drawing in "$top"/examples/*.scald "$top"/examples/sections/*.scald; do
     [ "$status" = "$wanted" ] || failure "$name: status $status in place of $wanted"
     cmp -s "$work/report" "$report" || failure "$name: another report"
 
-    # The notes, where there are any.
+    # The notes, if there are any.
     notes=${drawing%.scald}.notes
     "$program" notes <"$drawing" >"$work/notes" 2>"$work/said"
     status=$?
@@ -62,7 +62,7 @@ for drawing in "$top"/examples/*.scald "$top"/examples/sections/*.scald; do
         [ "$status" = 0 ] || failure "$name: notes with status $status, and none beside it"
     fi
 
-    # The margins, and the chains where there are faults.
+    # The margins, and the chains if there are faults.
     margins=${drawing%.scald}.margins
     if [ -f "$margins" ]; then
         "$program" margins <"$drawing" >"$work/margins" 2>"$work/said"

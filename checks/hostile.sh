@@ -2,7 +2,7 @@
 # Tries the built program over hostile texts and with too little memory. All of it is to be run by hand, since it
 # takes long, mostly for the random texts; --short is the part that ./check tries. It ends with the time that it took.
 # Usage: checks/hostile.sh [--short] [PROGRAM [COUNT]], COUNT random texts in place of 20000, or of 400.
-# Needs python3; cc where allocations are to be refused one by one; and GNU time where it is not short.
+# Needs python3; cc if allocations are to be refused one by one; and GNU time if it is not short.
 # A random text whose answer is wrong is kept in the folder KEPT, or else in the temporary one.
 . "$(dirname -- "$0")/common.sh"
 short=no
@@ -170,7 +170,7 @@ echo "cuts of alu.scald: $bytes tried, $wrong failed"
 
 # --- each limit, met and passed by one; and the texts that cost most
 # tries NAME STATUS LINE [WORD ..]: the text on standard input, verified with these words behind; the last line of the
-# answer must be LINE, or none be there where LINE is empty. A row may set how many seconds and KB it takes at most.
+# answer must be LINE, or none be there if LINE is empty. A row may set how many seconds and KB it takes at most.
 tries() {
     name=$1
     wanted=$2

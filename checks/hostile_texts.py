@@ -147,7 +147,7 @@ def wrong(tried, text, formatted):
         return "`format` refuses what `verify` expands", status
     if form == 0:
         form, twice = tried.run(canonical, "format")
-        # The parentheses of a canonical text may nest too deep where those of the text do not.
+        # The parentheses of a canonical text may nest too deep if those of the text do not.
         if form == 2 and twice.startswith(b"REFUSED 15 "):
             return None, status
         if (form, twice) != (0, canonical):

@@ -1,7 +1,7 @@
 #!/bin/sh
-# Runs each drawing of docs/IDIOMS.md and compares its report with the one below it, or its last line where one line
+# Runs each drawing of docs/IDIOMS.md and compares its report with the one below it, or its last line if one line
 # stands there. Nothing is said on standard error, and each idiom has a drawing. Usage: checks/idioms.sh [PROGRAM].
-# Where none is named and none is built it says so and ends with 0.
+# If none is named and none is built it says so and ends with 0.
 . "$(dirname -- "$0")/common.sh"
 begin "${1-}"
 

@@ -1,7 +1,7 @@
 #!/bin/sh
 # Installs the program in a folder of its own and tries what is installed: the script, the manual, the completions of
 # bash and zsh, and the highlighting of every example by the TextMate grammar and by Vim. What this machine has no
-# command for is said and passed over. Usage: checks/install.sh [PROGRAM]. Where none is named and none is built it says
+# command for is said and passed over. Usage: checks/install.sh [PROGRAM]. If none is named and none is built it says
 # so and ends with 0. Needs python3.
 . "$(dirname -- "$0")/common.sh"
 begin "${1-}"
@@ -90,7 +90,7 @@ warned() {
 if ! passed_over groff; then
     run 0 'groff' groff -ww -man -Tascii -P-cbou "$page"
     warned 'groff warns'
-    # one line, with one space between words and none where a word is cut
+    # one line, with one space between words and none if a word is cut
     tr -s ' \n' '  ' <"$work/out" | sed 's/- //g' >"$work/page"
     for text in 'verify [waves|faults] [rounds=N] [FILE ..]' 'bench N' 'install PREFIX' '--unproved' \
         '20 The arguments are unavailable' '23 scald install cannot write' \

@@ -2,9 +2,9 @@
 # Tries wrong edits, each of which the prover has to refuse, on a copy of the repository. checks/mutants/CRATE/NAME.edit
 # has the form of the edits in crates/*/must-fail, which are the few that every gate tries. These are tried by hand: an
 # edit takes up to a minute, after the proofs of its crate and of the crates below.
-# What each comes to is compared with checks/mutants/last, a line for each edit: whether it was refused and, where that
+# What each comes to is compared with checks/mutants/last, a line for each edit: whether it was refused and, if that
 # is written, by what. --keep writes there what this run found. --list says which edits there are, and tries none.
-# Usage: checks/mutants.sh [--keep | --list] [CRATE ..]. It ends with 0 where each edit is refused as before.
+# Usage: checks/mutants.sh [--keep | --list] [CRATE ..]. It ends with 0 if each edit is refused as before.
 set -u
 top=$(CDPATH='' cd -- "$(dirname -- "$0")/.." && pwd) || exit 2
 edits=$top/checks/mutants

@@ -1,6 +1,6 @@
 #!/bin/sh
 # Tries the built program over real streams: what each of them must answer, and with which status.
-# Usage: checks/program.sh [PROGRAM]. Where none is named and none is built it says so and ends with 0.
+# Usage: checks/program.sh [PROGRAM]. If none is named and none is built it says so and ends with 0.
 . "$(dirname -- "$0")/common.sh"
 begin "${1-}"
 first=$top/examples/first.scald
@@ -150,7 +150,7 @@ expect "nested IFs alone" 2 $?
 # --- what is said on standard error, beside an empty standard output
 
 # says NAME STATUS LINES GOT: the last command's status GOT, its output in $work/out, and in $work/said exactly these
-# lines, or nothing where they are empty
+# lines, or nothing if they are empty
 says() {
     trying "$1"
     : >"$work/lines"
@@ -179,7 +179,7 @@ forms='usage:
     scald judge F <TRACE-AND-DRAWING                   whether the trace is a run, and what breaks in it from tick F on
     scald bench N                                      what is found in a made drawing of N sections, 1 to 200'
 
-# none LINE WORD ..: no form has these words, the line says which is wrong, where one is, and nothing is read for them:
+# none LINE WORD ..: no form has these words, the line says which is wrong, if one is, and nothing is read for them:
 # the next command still finds the first line
 none() {
     line=$1
@@ -386,7 +386,7 @@ status=$?
 : >"$work/out"
 says "a full device for sections" 7 'scald: standard output could not be written' "$status"
 
-# Where there is an answer nothing is said.
+# If there is an answer nothing is said.
 for text in "$first" "$top/examples/skew_hold.scald"; do
     "$program" verify <"$text" >/dev/null 2>"$work/said"
     trying "$text"

@@ -1,7 +1,7 @@
 #!/bin/sh
 # Every refusal of docs/LANGUAGE.md with a small text that gets it: what `verify` answers, that `format` and `upgrade`
-# answer the same where the refusal comes before the expansion, and else print the text, and what standard error says.
-# Usage: checks/refusals.sh [PROGRAM]. Where none is named and none is built it says so and ends with 0.
+# answer the same if the refusal comes before the expansion, and else print the text, and what standard error says.
+# Usage: checks/refusals.sh [PROGRAM]. If none is named and none is built it says so and ends with 0.
 . "$(dirname -- "$0")/common.sh"
 begin "${1-}"
 
@@ -152,6 +152,8 @@ early '2 BadToken 4:4' 'b1 _: BUF [0:1] ("A") -> ("X");'
 helps "a word begins with a letter, and a net's name stands in double quotes"
 
 # --- grammar
+uses_deep='at most 64 uses of macros are nested, and at most 64 IFs and FORs;'
+expression_deep='an expression has at most 64 operators, and 64 parentheses and minus signs open'
 printf '' | refused '3 Syntax 1:1'
 helps 'the end of the text cannot come first: a text begins with SCALD 2;'
 text '3 Syntax 2:1' 'SCALD 1;' 'clock 8 x 50;'
@@ -202,7 +204,7 @@ early '3 Syntax 4:11' 'b1 : BUF [ONE:1] ("A") -> ("X");'
 helps "'ONE' cannot stand here, after '['" \
     'ONE is reserved: it cannot be a label, a macro, a parameter, a constant or a drawing'
 early '15 TooDeep 4:75' "b1 : BUF [$(many 65 '(')0$(many 65 ')'):0] (\"A\") -> (\"X\");"
-helps 'at most 64 uses of macros, 64 IFs and FORs, and 64 operators, parentheses and minus signs are nested'
+helps "$uses_deep" "$expression_deep"
 early '15 TooDeep 4:75' "b1 : BUF [$(many 33 '-(')0$(many 33 ')'):0] (\"A\") -> (\"X\");"
 early '15 TooDeep 4:139' "b1 : BUF [$(many 65 '- ')0:0] (\"A\") -> (\"X\");"
 early '15 TooDeep 4:140' "b1 : BUF [0$(many 65 '+1'):70] (\"A\") -> (\"X\");"
@@ -219,13 +221,13 @@ helps "'[' cannot stand here, after ']'" 'connections stand in ( )'
 early '15 TooDeep 4:82' "b1 : BUF [0:0, 0:$(many 65 '(')0$(many 65 ')')] (\"A\") -> (\"X\");"
 early '15 TooDeep 4:401' "b1 : BUF [0$(many 64 '+1'):0$(many 64 '+1'), 0$(many 65 '+1'):0] (\"A\") -> (\"X\");"
 early '15 TooDeep 4:641' "$(many 65 'IF 1 THEN ')b1 : BUF [0:0] (\"A\") -> (\"X\"); $(many 65 'END; ')"
-helps 'at most 64 uses of macros, 64 IFs and FORs, and 64 operators, parentheses and minus signs are nested'
+helps "$uses_deep" "$expression_deep"
 
 second '3 Syntax 7:1' 'MACRO M ("A") -> ("Z");' 'IF 1 THEN' 'b1 : BUF [0:0] ("A") -> ("Z");' 'END;' 'DRAWING ROW;' 'END;'
 helps "'DRAWING' cannot stand here, after ';'" 'the MACRO at 3:1 has no END before this'
 second '3 Syntax 6:1' 'MACRO M ();' 'IF 1 THEN' 'ELSE' 'DRAWING ROW;' 'END;'
 second '3 Syntax 7:1' 'DRAWING ROW;' 'FOR I = 0 TO 1 DO' 'b1 : BUF [0:0] ("A"<I>) -> ("X"<I>);' 'END;'
-# an IF without END takes that of the macro, also where a second IF is in it
+# an IF without END takes that of the macro, also if a second IF is in it
 second '3 Syntax 7:1' 'MACRO M ("A") -> ("Z");' 'IF 1 THEN' 'b1 : BUF [0:0] ("A") -> ("Z");' 'END;' 'MACRO N ();' 'END;' 'DRAWING ROW;' 'END;'
 helps "'MACRO' cannot stand here, after ';'" 'the MACRO at 3:1 has no END before this'
 second '3 Syntax 9:1' 'DRAWING ROW;' 'IF 1 THEN' 'b1 : BUF [0:0] ("A") -> ("X");' 'IF 0 THEN' 'END;' 'END;'
@@ -380,7 +382,7 @@ named() {
     shift
     [ $# -eq 0 ] || helps "$@"
 }
-form='an assertion is .S, .P or .C and intervals of the units 0 to 8, as in 2-3,5-6, none of them empty;'
+form='an assertion is .S alone, or .S, .P or .C and intervals of the units 0 to 8, as in 2-3,5-6, none of them empty;'
 skew='after .P and .C there may be a skew of at most 4095 ticks, as in (2,3), and then an L'
 for name in 'CK .P2-17' 'CK .P8-3' 'CK .P3-3' 'CK .P02-3' 'CK .P2-3(4096,0)' 'A .S0-2L' 'CK .P' 'CK .P2' 'CK .P2-' \
     'CK .P2-3(' 'CK .P2-3(1)' 'CK .P2-3(1,L)' 'CK .P2-3LL' 'CK .X2-3'; do
@@ -505,7 +507,7 @@ helps "'NOR' is drawn as OR with a - before its output"
 drawing '6 UnknownKind 4:1' 'u1 : ADDER ("A") -> ("X");'
 helps 'kinds: BUF, AND, OR, XOR, MUX2, MUX4, MUX8, CHG, REG, REG_RS, LATCH, LATCH_RS, and checkers *_CHK'
 macro unexpanded '6 UnknownKind 6:1' 'MACRO ADDER ();' 'END;' 'DRAWING ROW;' 'u : ADER ();' 'END;'
-# a kind or a macro with other letters, also where the word is nearly another kind, or has a meaning elsewhere
+# a kind or a macro with other letters, also if the word is nearly another kind, or has a meaning elsewhere
 drawing '6 UnknownKind 4:1' 'm1 : mux4 [0:0] ("S"<0>, "S"<1>, "A", "B", "C", "D") -> ("X");'
 macro unexpanded '6 UnknownKind 6:1' 'MACRO FF ("CK", "D") -> ("Q");' 'END;' 'DRAWING ROW;' 'flag : ff ("CK", "A") -> ("X");' 'END;'
 macro unexpanded '6 UnknownKind 6:1' 'MACRO AND3 ("A") -> ("Z");' 'END;' 'DRAWING ROW;' 'u : and3 ("A") -> ("X");' 'END;'
@@ -600,7 +602,7 @@ drawing '13 PinCount 4:1' "a1 : AND [0:0] (\"A\"$(many 16 ', "A"')) -> (\"X\");"
 drawing '13 PinCount 4:1' 'c1 : MIN_PULSE_CHK ("A") -> ("X");'
 drawing '13 PinCount 4:1' 'b1 : BUF [0:0] ("A" !H) -> ("X");'
 macro unexpanded '15 TooDeep 4:1' 'MACRO M ("A") -> ("Z");' 'x : M ("A") -> ("Z");' 'END;' 'DRAWING ROW;' 'u : M ("A") -> ("X");' 'END;'
-helps 'at most 64 uses of macros, 64 IFs and FORs, and 64 operators, parentheses and minus signs are nested' \
+helps "$uses_deep" "$expression_deep" \
     "uses of 'M': 2, the first at 4:1:" 'x : M ("A") -> ("Z");' '^'
 macro unexpanded '11 BadRange 6:1' 'MACRO M {N=1} ("A"<0:N>);' 'END;' 'DRAWING ROW;' 'u : M {N=256} ("A");' 'END;'
 helps 'a bit is numbered 0 to 65535, a range has at most 256 bits, and a formal has those of its head'

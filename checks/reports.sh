@@ -1,11 +1,11 @@
 #!/bin/sh
 # What the built program reports on small drawings of each kind, worked out by hand: gates, storage, loops, clocks,
 # checkers, macros and cases, with the status of each; and the margins, the chains and the slacks of some.
-# Usage: checks/reports.sh [PROGRAM]. Where none is named and none is built it says so and ends with 0.
+# Usage: checks/reports.sh [PROGRAM]. If none is named and none is built it says so and ends with 0.
 . "$(dirname -- "$0")/common.sh"
 begin "${1-}"
 
-# A period of 8 units of 50 ticks, and the lines from line 3 on; where none of them begins a drawing, they are those
+# A period of 8 units of 50 ticks, and the lines from line 3 on; if none of them begins a drawing, they are those
 # of one.
 text() {
     printf 'SCALD 1;\nCLOCK 8 x 50;\n'
@@ -394,7 +394,7 @@ whole 'a race at a checker of a high clock' slack 1 \
     'r1 : REG [2:6] ("CK .P2-3", "D .S1-4") -> ("Q");' 'b1 : BUF [2:3] ("CK") -> ("CK2");' \
     'c1 : SETUP_RISE_HOLD_FALL_CHK {SETUP=20, HOLD=4} ("CK2", "Q");' \
     -- 'SLACK PERIOD 400' 'slack  limit     of     line' '  -56  HOLD 4    c1<0>     6' '  376  SETUP 20  c1<0>     6' '' 'BROKEN 1'
-row 'a race, told as early and by its sum' explain 1 \
+row 'a race, shown as early and by its sum' explain 1 \
     'r1 : REG [2:6] ("CK .P2-3", "D .S1-4") -> ("Q");' 'b1 : BUF [2:3] ("CK") -> ("CK2");' \
     'c1 : SETUP_RISE_HOLD_FALL_CHK {SETUP=20, HOLD=4} ("CK2", "Q");' \
     -- '   data, first change:' '         102     +2  Q changes  r1 REG [2:6] line 4' '   clock, latest:' \

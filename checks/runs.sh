@@ -1,7 +1,7 @@
 #!/bin/sh
 # Tries `run` and `judge` of the built program. Of each example and each of its cases 200 runs are drawn and judged from
 # the printed tick on: each is a run whose inputs keep their assertions, and nothing breaks that the report does not list;
-# nothing at all where the report is CLEAN. Then random drawings are tried against checks/model, which judges every run
+# nothing at all if the report is CLEAN. Then random drawings are tried against checks/model, which judges every run
 # and spoilt traces of it too: 500 drawings. --short tries 10 runs of each case and 60 drawings, which ./check does.
 # Usage: checks/runs.sh [--short] [PROGRAM [COUNT [FIRST]]], COUNT random drawings from number FIRST on. Needs python3.
 # Where a verdict is wrong the text is kept in the folder KEPT, or else in the temporary one.
@@ -17,7 +17,7 @@ begin "${1-}"
 count=${2:-$count}
 begun=$(date +%s)
 
-# ticks T PERIOD NETS: how many ticks are drawn: three periods past the printed tick, where there is room for them
+# ticks T PERIOD NETS: how many ticks are drawn: three periods past the printed tick, if there is room for them
 ticks() {
     awk -v tick="$1" -v period="$2" -v nets="$3" 'BEGIN {
         most = int(4000000 / nets); if (most > 4096) most = 4096

@@ -1,11 +1,11 @@
 #!/bin/sh
 # What the built program answers to the same lines in version 1 and in version 2 of the language, side by side, worked
 # out by hand: the order of selects, constants and FOR; and that the upgraded text of a drawing has the same circuit.
-# Usage: checks/versions.sh [PROGRAM]. Where none is named and none is built it says so and ends with 0.
+# Usage: checks/versions.sh [PROGRAM]. If none is named and none is built it says so and ends with 0.
 . "$(dirname -- "$0")/common.sh"
 begin "${1-}"
 
-# A text in this version: a period of 8 units of 50 ticks, and the lines from line 3 on; where none of them begins a
+# A text in this version: a period of 8 units of 50 ticks, and the lines from line 3 on; if none of them begins a
 # drawing, they are those of one.
 text() {
     printf 'SCALD %s;\nCLOCK 8 x 50;\n' "$1"
@@ -159,7 +159,7 @@ sides 'a variable around a use' 'MACRO M ();' 'b : BUF [0:0] ("A") -> ("X"<I>);'
 
 # --- upgrade
 
-# same_report NAME: the report on $work/new is that on $work/old but for the version, where that one is not refused
+# same_report NAME: the report on $work/new is that on $work/old but for the version, if that one is not refused
 same_report() {
     "$program" verify <"$work/old" >"$work/out" 2>/dev/null
     status=$?

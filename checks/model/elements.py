@@ -9,7 +9,7 @@ from .waves import Wave, delayed, fold, is_steady, normal, windows
 BITS = frozenset({0, 1})
 
 
-# --- one slot: what an element may do where its pins make one step each
+# --- one slot: what an element may do if its pins make one step each
 
 
 def gate_bit(kind, bits):

@@ -1,4 +1,4 @@
--- The regions of two edges share a slot exactly where the edges are near one another, over the period's end too.
+-- The regions of two edges share a slot exactly if the edges are near one another, over the period's end too.
 use Rattle.std.proofs.Common.{◌≡◌, ℕ, ◌+◌, ◌-◌, ◌*◌, ◌%◌, ◌<◌, ◌≤◌, Bool, true, false, not, cond, ◌⊎◌, inl, inr, refl, sym, ap, ◌∙◌, arith}
 use Rattle.std.proofs.lemmas.Bool.{cases_eq, cases_lt, cases_order}
 use Rattle.std.specs.Prelude.{MatchBool}

@@ -256,6 +256,6 @@ name_again text n is =
 pub names_one : (n m : SignalName) (text : List ℕ) → IsTextOf n text → IsTextOf m text → n ≡ m
 names_one n m text p q = same_Some n m (sym (name_again text n p) ∙ name_again text m q)
 
--- Where nothing is read the text is of no name.
+-- If nothing is read the text is of no name.
 pub none_again : (text : List ℕ) → name_at text ≡ None → (n : SignalName) → IsTextOf n text → ⊥
 none_again text none n is = none-some n (sym none ∙ name_again text n is)

@@ -1,4 +1,6 @@
--- Signal names, and how each is spelled.
+-- Signal names, and how each is spelled. The spelling is a function of the name: writing is this
+-- definition, and reading its inverse. An interval's spelling counts, so `.P2-3` and `.P2-3(0,0)`
+-- are two assertions, and clash.
 use Rattle.std.specs.Prelude.{◌≡◌, ℕ, ◌≤◌, Bool, true, false, ◌&&◌, ◌||◌, ◌==◌, List, [], ◌∷◌, ◌++◌, length, All, codes, decimal, Option, Some, None, IfSome, ⊤, if◌then◌else◌}
 use Rattle.std.specs.List.{list_all, join_by}
 use Rattle.std.specs.Char.{is_ascii_alphanumeric}

@@ -16,7 +16,7 @@ abbrev pub ◌>>=◌ : {A B : Type 0} → Option A → (A → Option B) → Opti
 None >>= f = None
 (Some x) >>= f = f x
 
--- one way where there is nothing, and another where there is something
+-- one way if there is nothing, and another if there is something
 abbrev pub either : {A B : Type 0} → Option A → B → (A → B) → B
 either None none some = none
 either (Some x) none some = some x
@@ -79,7 +79,7 @@ parted_at rest = do
   left ← literal_at (codes ")") skew.1
   Some (skew.0, left)
 
--- a skew where a parenthesis opens
+-- a skew if a parenthesis opens
 unfoldable pub skew_at : List ℕ → Option (Option (ℕ × ℕ) × List ℕ)
 skew_at rest =
     either (literal_at (codes "(") rest) (Some (None, rest)) (λ inside.

@@ -20,13 +20,13 @@ pub enum NameFault {
     /// An interval is not one of the header's units.
     #[error("an interval does not fit the units of the period")]
     BadName,
-    /// Two edges of a clock may come at the same tick, where each moves by itself.
+    /// Two edges of a clock may come at the same tick, if each moves by itself.
     #[error("the regions of two edges overlap")]
     EdgesOverlap,
 }
 
-/// Whether the assertion is one for this header: `BadName` exactly where an interval is not one of
-/// its units, and then `EdgesOverlap` exactly where the regions of two edges of a `.C` clock share
+/// Whether the assertion is one for this header: `BadName` exactly if an interval is not one of
+/// its units, and then `EdgesOverlap` exactly if the regions of two edges of a `.C` clock share
 /// a slot, or one is longer than the period.
 pub fn fits(spec: &AssertSpec, h: &Header) -> Result<(), NameFault>
     ensures { MatchResult result (λ _. Fits h.now spec.now) (IsFaultOf h.now spec.now) }
@@ -60,7 +60,7 @@ fn intervals_fit(spec: &AssertSpec, h: &Header) -> bool
     }
 }
 
-/// Whether the regions of a clock's edges overlap, where each edge moves by itself.
+/// Whether the regions of a clock's edges overlap, if each edge moves by itself.
 fn edges_overlap(spec: &AssertSpec, h: &Header) -> bool
     requires { IntervalsFit h.now spec.now }
     ensures { MatchBool result (EdgesOverlap h.now spec.now) (¬ EdgesOverlap h.now spec.now) }

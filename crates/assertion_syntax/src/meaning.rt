@@ -10,7 +10,7 @@ ghost use Rattle.assertion_syntax.specs.Slots.{is_between};
 use scald_base::{ClockSpec, Header, Span, Spans};
 
 /// What a clock shows at a tick, without any skew: 1 in the units of its intervals, or 0 there
-/// where it is complemented. The period's ticks count from 0.
+/// if it is complemented. The period's ticks count from 0.
 pub fn ideal(spec: &ClockSpec, h: &Header, tick: u16) -> bool
     ensures { result ≡ ideal spec.now h.now tick }
 {

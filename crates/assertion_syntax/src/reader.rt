@@ -15,13 +15,13 @@ use crate::name::{NameEnd, SignalName};
 use scald_base::{AssertSpec, Bytes, ClockSpec, NoMemory, Span, Spans};
 use std::alloc::Global;
 
-/// The name of the text, or `BadName` exactly where the text is of no name. `NoMemory` comes only
-/// where memory runs out.
+/// The name of the text, or `BadName` exactly if the text is of no name. `NoMemory` comes only
+/// if memory runs out.
 pub fn read_name(alloc: Global, text: &[u8]) -> Result<SignalName, NameEnd>
     ensures found { IfOk result (λ n. IsTextOf n text.now) }
     ensures none { IfErr result (λ e. e ≡ BadName → (n : SignalName) → ¬ IsTextOf n text.now) }
 {
-    // Most names are a base alone, which one look at each byte tells.
+    // Most names are a base alone, which one look at each byte shows.
     if is_base(text) {
         let name = base_alone(alloc, text)?;
         return Ok(name);
@@ -136,7 +136,7 @@ fn parted(rest: &[u8]) -> Option<((u16, u16), &[u8])>
     Some((skew, literal(rest, b")")?))
 }
 
-/// A skew, where a parenthesis opens.
+/// A skew, if a parenthesis opens.
 #[tactic(auto, unfolding(crate::specs::Reading::skew_at))]
 fn skew(rest: &[u8]) -> Option<(Option<(u16, u16)>, &[u8])>
     ensures { Gives (λ x. (x.0, x.1.now)) result (skew_at rest.now) }

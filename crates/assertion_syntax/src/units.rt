@@ -35,7 +35,7 @@ fn add(ends: &mut [u16; UNITS], units: u16, span: Span)
     }
 }
 
-/// Before which unit the intervals that begin in each unit end, at the latest; 0 where none begins.
+/// Before which unit the intervals that begin in each unit end, at the latest; 0 if none begins.
 fn ends_of(spans: &[Span], units: u16) -> [u16; UNITS]
     requires fit { All (SpanFits units) spans.now }
     requires few { units ≤ 4096 }

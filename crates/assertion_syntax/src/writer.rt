@@ -1,6 +1,6 @@
 //! Writes a name.
 //!
-//! Each function but the last puts its piece at the end of the bytes, and where memory runs out its
+//! Each function but the last puts its piece at the end of the bytes, and if memory runs out its
 //! contract leaves open which bytes of the piece are there.
 
 ghost use Rattle.std.specs.Prelude.{◌≡◌, ◌++◌, decimal, OnOk, OnErr};
@@ -42,7 +42,7 @@ fn add_spans(out: &mut Bytes, spans: &[Span]) -> Result<(), NoMemory>
     Ok(())
 }
 
-/// A skew, where there is one.
+/// A skew, if there is one.
 fn add_skew(out: &mut Bytes, skew: Option<(u16, u16)>) -> Result<(), NoMemory>
     ensures { OnOk result (out.new ≡ out.old ++ skew_text skew) }
 {
@@ -66,7 +66,7 @@ fn add_clock(out: &mut Bytes, clock: &ClockSpec) -> Result<(), NoMemory>
     Ok(())
 }
 
-/// An assertion and the space before it, where there is one.
+/// An assertion and the space before it, if there is one.
 fn add_assertion(out: &mut Bytes, spec: &AssertSpec) -> Result<(), NoMemory>
     ensures { OnOk result (out.new ≡ out.old ++ assertion_text spec.now) }
 {
@@ -98,8 +98,8 @@ fn add_name(out: &mut Bytes, n: &SignalName) -> Result<(), NoMemory>
     add_assertion(out, &n.spec)
 }
 
-/// Puts a name's text at the end: its slash where it is global, its base, and after one space its
-/// assertion where it has one. Where memory runs out the bytes are as before.
+/// Puts a name's text at the end: its slash if it is global, its base, and after one space its
+/// assertion if it has one. If memory runs out the bytes are as before.
 pub fn write_name(alloc: Global, n: &SignalName, out: &mut Bytes) -> Result<(), NoMemory>
     ensures ok { OnOk result (out.new ≡ out.old ++ name_text n.now) }
     ensures err { OnErr result (out.new ≡ out.old) }

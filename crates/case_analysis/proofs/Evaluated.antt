@@ -35,7 +35,7 @@ active_takes : (c : Circuit) (active : ℕ → Bool) (ws : Waves) (i : ℕ) → 
 unfolding next
 active_takes c active ws i is = ap (λ (b : Bool). cond b (evaluated c ws i) (ws i)) is
 
--- Where all rounds are as the last one, a net that is active if it is driven has what its driver makes.
+-- If all rounds are as the last one, a net that is active if it is driven has what its driver makes.
 still_evaluated : (c : Circuit) (active : ℕ → Bool) (start : Waves) (r i : ℕ) →
     AreSame (round c active start (suc r)) (round c active start r) → (is_driven c i ≡ true → active i ≡ true) →
     round c active start r i ≡ evaluated c (round c active start r) i
@@ -52,7 +52,7 @@ still_evaluated c active start r i still driven = by (driver_at c.nets i) refl
 neither : (a b : Bool) → a ≡ false → b ≡ false → (a || b) ≡ false
 neither a b first second = λ k. first k || second k
 
--- Where each net that the pins listen to is out of a set, none of them listens to one of the set.
+-- If each net that the pins listen to is out of a set, none of them listens to one of the set.
 heard_none : (nets : ℕ → Bool) (kind : Kind) (place : ℕ) (ps : List Pin) →
     ((m : ℕ) → hears_from (λ i. i == m) kind place ps ≡ true → nets m ≡ false) → hears_from nets kind place ps ≡ false
 heard_none nets kind place [] each = refl

@@ -99,7 +99,7 @@ start_permits c run some meets i below = elim (slice_get_cases c.nets i).1 [
 
 -- ---- as code has them
 
--- the waves of a list, where past its end there is none
+-- the waves of a list, if past its end there is none
 pub listed_is : (f : ℕ → Wave Value) (n : ℕ) (waves : List (Wave Value)) → waves ≡ map f (range_with_len 0 n) → ((i : ℕ) → n ≤ i → f i ≡ skewed [] 0) → (i : ℕ) → waves_of waves i ≡ f i
 listed_is f n waves is none i = elim (cases_lt i n) [
   | inl below ↦

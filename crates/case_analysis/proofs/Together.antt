@@ -1,4 +1,4 @@
--- Where nets of one class are alike, they begin with one wave, are active together, and lie in the same cones.
+-- If nets of one class are alike, they begin with one wave, are active together, and lie in the same cones.
 use Rattle.std.proofs.Common.{◌≡◌, ℕ, ◌+◌, ◌<◌, ◌==◌, ◌&&◌, ◌||◌, Bool, true, false, cond, List, [], ◌∷◌, length, All, refl, sym, ap, subst, ◌∙◌, inl, inr, slice_get, Option, Some, None, is_some}
 use Rattle.std.specs.Cmp.{both_ways}
 use Rattle.std.specs.List.{AllZip}

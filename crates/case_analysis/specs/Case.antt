@@ -54,7 +54,7 @@ pub record HasCone (c : Circuit) (values : List CaseValue) : Type 0 where
   pub cone : ℕ → Bool
   pub is : IsCone c values cone
 
--- what ends the rounds of a case, but for want of memory, ends them in a cone
+-- what ends the rounds of a case, unless it is a lack of memory, ends them in a cone
 abbrev pub EndsInCone : Circuit → List CaseValue → EngineEnd → Type 0
 EndsInCone c values NoMemory = Unit {0}
 EndsInCone c values (Unsettled net limit) = HasCone c values

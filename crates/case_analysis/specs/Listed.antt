@@ -73,7 +73,7 @@ abbrev pub IsCaseStop : Circuit → List CaseEntry → Stop → Type 0
 IsCaseStop c entries NoMemory = Unit {0}
 IsCaseStop c entries (Refused r) = (s : State) → Stands s c → case_bits s [] entries ≡ Err r
 
--- ---- one entry, where the marks are those of the nets that its case has named before
+-- ---- one entry, if the marks are those of the nets that its case has named before
 
 pub record AreNamed (c : Circuit) (marks : List Bool) (before : List CaseBit) : Type 0 where
   pub each_net : length marks ≡ length c.nets

@@ -109,7 +109,7 @@ pub fn driven_nets(alloc: Global, c: &Circuit) -> Result<NetSet, NoMemory>
     Ok(driven)
 }
 
-/// The most rounds where no limit is given: one for each instance with an output, four for each
+/// The most rounds if no limit is given: one for each instance with an output, four for each
 /// tick of the period, and 16.
 pub fn default_limit(c: &Circuit) -> u32
     ensures is { result ≡ default_limit c.now }
@@ -126,10 +126,10 @@ pub fn default_limit(c: &Circuit) -> u32
 }
 
 /// The base: from the assertions of the nets that nothing drives, and nothing known of the others,
-/// rounds over all driven nets until a round is as the one before, by one net of each class where
+/// rounds over all driven nets until a round is as the one before, by one net of each class if
 /// there are classes. The settled waves permit every run whose inputs keep their assertions,
-/// `reach` ticks a round later. `Unsettled` comes exactly where no round up to `limit` is as the
-/// next one: never where no net is reached from itself through listening pins and the limit is not
+/// `reach` ticks a round later. `Unsettled` comes exactly if no round up to `limit` is as the
+/// next one: never if no net is reached from itself through listening pins and the limit is not
 /// below the number of instances with an output. The waves are answered by their numbers in the
 /// store.
 pub fn base<W: CyclicWave<Item = Value>>(

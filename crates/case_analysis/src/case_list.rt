@@ -40,7 +40,7 @@ fn bit_known(bit: u16)
 }
 
 /// What holds of the bits of each circuit: their numbers are at most 65,535. It goes through the
-/// nets, and is asked at most once for a drawing, where an entry is refused.
+/// nets, and is asked at most once for a drawing, if an entry is refused.
 fn bits_known(c: &Circuit)
     ensures { All (λ net. net.bit < 65536) c.now.nets }
 {
@@ -96,7 +96,7 @@ fn may_set(c: &Circuit, entry: &CaseEntry, named: &NetSet, net: u32) -> bool
     is_plain(&entry.name) && is_free(net_of(c, net)) && !named.has(net) && entry.value <= 1
 }
 
-/// The value that an entry gives its net: none where it may not, since its name asserts something,
+/// The value that an entry gives its net: none if it may not, since its name asserts something,
 /// the net does not exist, is driven, is an asserted clock or was named before, or the value is no
 /// bit.
 fn value_of(
@@ -160,7 +160,7 @@ fn cases_of(alloc: Global, c: &Circuit, written: &[CaseStmt]) -> Result<CaseList
 /// The cases that a drawing lists, whose circuit is given. The 257th case is refused, wherever it
 /// is, and then the first entry that names a net with an assertion, or one that does not exist, is
 /// driven, is an asserted clock or was named before in the same case, or whose value is not 0 or 1;
-/// `NoMemory` comes where memory runs out.
+/// `NoMemory` comes if memory runs out.
 pub fn check_cases(alloc: Global, c: &Circuit, written: &CaseStmts) -> Result<CaseList, Stop>
     ensures is { MatchResult result (AreCasesOf c.now written.now)
         (AreCasesStop c.now written.now) }

@@ -105,10 +105,10 @@ fn driven_in(alloc: Global, c: &Circuit, cone: &NetSet) -> Result<NetSet, NoMemo
 
 /// The settled waves of the case with this number from 0: its nets have their values, the other
 /// nets of its cone are unknown at the start, and all others keep the base's waves; rounds over the
-/// driven nets of the cone, until a round is as the one before, by one net of each class where
+/// driven nets of the cone, until a round is as the one before, by one net of each class if
 /// there are classes. The waves permit every run of the case whose inputs keep their assertions,
-/// `reach` ticks later for each round of the base and of the case. `Unsettled` comes exactly where
-/// no round up to `limit` is as the next one: never where no net is reached from itself through
+/// `reach` ticks later for each round of the base and of the case. `Unsettled` comes exactly if
+/// no round up to `limit` is as the next one: never if no net is reached from itself through
 /// listening pins and the limit is not below the number of instances with an output.
 pub fn case_waves<W: CyclicWave<Item = Value>>(
     alloc: Global,

@@ -15,7 +15,7 @@ const LAST_BIT: u64 = 65535;
 
 const MOST_BITS: u64 = 256;
 
-/// How many bits a connection has in a macro with this head, where that can be read.
+/// How many bits a connection has in a macro with this head, if that can be read.
 fn width_of(text: &Text, head: Span, connection: Span) -> Option<u64> {
     let mut width: u64 = 0;
     if MOST_TOKENS < connection.to.saturating_sub(connection.from) {
@@ -32,7 +32,7 @@ fn width_of(text: &Text, head: Span, connection: Span) -> Option<u64> {
     Some(width)
 }
 
-/// The widths of connections, with a `?` where one cannot be read.
+/// The widths of connections, with a `?` if one cannot be read.
 fn add_widths(out: &mut Lines, text: &Text, head: Span, list: Span) {
     let mut rest = list;
     for number in 0..MOST {
@@ -92,7 +92,7 @@ pub fn add_width(out: &mut Lines, text: &Text, label: usize) {
     );
 }
 
-/// That a size may not divide, where a statement divides.
+/// That a size may not divide, if a statement divides.
 fn add_quotient(out: &mut Lines, text: &Text, start: usize) {
     for i in start..text.end_of(start) {
         if text.symbol(i) == b'/' {
@@ -103,7 +103,7 @@ fn add_quotient(out: &mut Lines, text: &Text, start: usize) {
     }
 }
 
-/// What is wrong with the range of a name, where that is written in digits; whether something is.
+/// What is wrong with the range of a name, if that is written in digits; whether something is.
 fn add_name(out: &mut Lines, text: &Text, head: Span, i: usize) -> bool {
     let Some((first, last)) = text.bits(head, i) else {
         return false;

@@ -110,8 +110,8 @@ fn add_meant(out: &mut Lines, words: &[&'static [u8]], word: &[u8]) {
     }
 }
 
-/// What is wrong with the word of this number, from 0, where no form begins with the words up to it: it is
-/// another, or it is missing.
+/// What is wrong with the word of this number, from 0, if no form begins with the words up to
+/// it: it is another, or it is missing.
 pub fn explain_words(alloc: Global, words: &Words, number: u32) -> Lines {
     let mut out = Lines::new(alloc);
     let count = (number as usize).min(words.len());

@@ -12,8 +12,9 @@ fn is_clock(text: &Text, i: usize) -> bool {
     is_asserting(text, i) && letter != Some(&b'S')
 }
 
-/// What the names of the drawing, or of all bodies if the base is global, say of a net that a case may not set:
-/// that it is an output or a clock, or that it is not named, and which net may be meant.
+/// What the names of the drawing, or of all bodies if the base is global, say of a net that a case
+/// may not set: that it is an output or a clock, or that it is not named, and which net may be
+/// meant.
 fn add_site(out: &mut Lines, text: &Text, i: usize) {
     let scope = text.scope_of(i);
     let base = text.base(i);

@@ -1,4 +1,4 @@
-//! All that a person is told of a refusal.
+//! All that is said of a refusal.
 
 use crate::bits::{add_range, add_width};
 use crate::case::add_entry;
@@ -16,8 +16,8 @@ use crate::uses::{add_bounds, add_connections, add_parameter, add_unknown_kind};
 use scald_base::{Refusal, RefusalKind};
 use std::alloc::Global;
 
-/// What a person is told of a text that is refused so: the place and a sentence, the line of the text with a
-/// mark under the place, and what may help.
+/// What is said of a text that is refused so: the place and a sentence, the line of the
+/// text with a mark under the place, and what may help.
 pub fn explain_refusal(alloc: Global, bytes: &[u8], refusal: Refusal) -> Lines {
     let mut out = Lines::new(alloc);
     out.fill(
@@ -74,9 +74,12 @@ fn add_expanded(out: &mut Lines, text: &Text, kind: RefusalKind, i: usize) {
         RefusalKind::Width => add_width(out, text, i),
         RefusalKind::PinCount => add_connections(out, text, i),
         RefusalKind::Bounds => add_bounds(out, text, i),
-        RefusalKind::TooDeep => out.note(
-            b"at most 64 uses of macros, 64 IFs and FORs, and 64 operators, parentheses and minus signs are nested",
-        ),
+        RefusalKind::TooDeep => {
+            out.note(b"at most 64 uses of macros are nested, and at most 64 IFs and FORs;");
+            out.note(
+                b"an expression has at most 64 operators, and 64 parentheses and minus signs open",
+            );
+        }
         RefusalKind::TooMany if text.is(i, b"CASE") => {
             out.note(b"a drawing has at most 256 cases, and this is one more")
         }
@@ -101,7 +104,8 @@ fn is_use(text: &Text, i: usize, name: &[u8]) -> bool {
         && matches!(text.symbol(next), b'(' | b'{' | b'[')
 }
 
-/// How often the macro of a token is used, and where first: one of these uses leads to what is refused.
+/// How often the macro of a token is used, and where first: one of these uses leads to what is
+/// refused.
 pub fn add_uses(out: &mut Lines, text: &Text, i: usize) {
     let head = text.head_of(i);
     let name = text.word(head.saturating_add(1));

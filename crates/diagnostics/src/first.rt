@@ -1,4 +1,5 @@
-//! The other place of what stands twice: of a name that is declared, of an assertion and of a driver.
+//! The other place of what stands twice: of a name that is declared, of an assertion and of a
+//! driver.
 
 use crate::lines::Lines;
 use crate::lines::Part::At;

@@ -9,7 +9,7 @@ use scald_base::{Bytes, Failed, Source};
 use std::alloc::Global;
 
 /// A source over another that keeps the bytes that it gave, as long as there is memory for them. It
-/// gives what the other gives, and fails where the other fails.
+/// gives what the other gives, and fails if the other fails.
 #[derive(Drop)]
 pub struct KeptSource<S: Source> {
     source: S,
@@ -26,7 +26,7 @@ impl<S: Source> KeptSource<S> {
         KeptSource { source, kept }
     }
 
-    /// The bytes that were given, or `None` where memory for them ran out.
+    /// The bytes that were given, or `None` if memory for them ran out.
     pub fn kept(&self) -> Option<&[u8]>
         ensures { option_copied result ≡ self.now.kept }
     {
@@ -45,12 +45,14 @@ impl<S: Source> Source for KeptSource<S> {
     ghost rises = { S.rises };
 
     fn read(&mut self, room: &mut [u8]) -> Result<usize, Failed>
-        ensures gives { IfOk result (λ n. Gives (S.left self.old.source) (S.left self.new.source) room.old room.new n) }
+        ensures gives { IfOk result (λ n.
+            Gives (S.left self.old.source) (S.left self.new.source) room.old room.new n) }
         ensures kept { OnErr result (Keeps (S.left self.old.source) (S.left self.new.source)) }
         ensures faults { CountsFaults (S.faults self.old.source) (S.faults self.new.source) result }
-        ensures rises { OnErr result (S.rises (S.faults self.old.source) (S.faults self.new.source)) }
-        ensures keeps { IfOk result (λ n. IfSome self.new.kept (λ all. IfSome self.old.kept (λ before.
-            all ≡ before ++ take n room.new))) }
+        ensures rises { OnErr result
+            (S.rises (S.faults self.old.source) (S.faults self.new.source)) }
+        ensures keeps { IfOk result (λ n. IfSome self.new.kept (λ all.
+            IfSome self.old.kept (λ before. all ≡ before ++ take n room.new))) }
         ensures lost { self.old.kept ≡ None → self.new.kept ≡ None }
         ensures failed { OnErr result (self.new.kept ≡ self.old.kept) }
     {

@@ -19,8 +19,8 @@ fn is_used(text: &Text, i: usize) -> bool {
         && !text.is_any(i, &NO_NAMES)
 }
 
-/// The name that a word is like of the constants before a statement, of the parameters in the head of its macro
-/// and of the variables of the FORs around it: the number of its token.
+/// The name that a word is like of the constants before a statement, of the parameters in the head
+/// of its macro and of the variables of the FORs around it: the number of its token.
 fn known(text: &Text, start: usize, likeness: Likeness, word: &[u8]) -> Option<usize> {
     let head = text.macro_head(start);
     for i in 1..start {

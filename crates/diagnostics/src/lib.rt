@@ -1,8 +1,9 @@
-//! What a person is told of a text that is refused, and of words that are of no form.
+//! What is said of a text that is refused, and of words that are of no form.
 //!
-//! The program says on standard error what [`explain_refusal`] gives. All of it is read off the text, which a
-//! [`KeptSource`] keeps, and its tokens. Standard output and the status do not depend on it, so nothing is promised
-//! of these lines but that each call ends: `checks/refusals.sh` has what is said.
+//! The program says on standard error what [`explain_refusal`] gives. All of it is read off the
+//! text, which a [`KeptSource`] keeps, and its tokens. Standard output and the status do not depend
+//! on it, so nothing is promised of these lines but that each call ends: `checks/refusals.sh` has
+//! what is said.
 #![tactic(auto)]
 
 // the text, its tokens and statements, and lines

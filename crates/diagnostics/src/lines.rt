@@ -21,8 +21,8 @@ pub enum Part<'a> {
     At(Place),
 }
 
-/// The last column that is shown with all columns before it, and how many are shown before one that is
-/// further to the right.
+/// The last column that is shown with all columns before it, and how many are shown before one that
+/// is further to the right.
 const LAST_WHOLE: usize = 72;
 
 const BEFORE: usize = 40;
@@ -32,7 +32,7 @@ const MOST_SHOWN: usize = 100;
 
 const MOST_QUOTED: usize = 64;
 
-/// Lines that grow at their end. Where memory runs out there are none.
+/// Lines that grow at their end. If memory runs out there are none.
 #[derive(Drop)]
 pub struct Lines {
     bytes: Bytes,
@@ -48,7 +48,7 @@ impl Lines {
         }
     }
 
-    /// All of them, or nothing where memory ran out.
+    /// All of them, or nothing if memory ran out.
     pub fn as_str(&self) -> &str {
         if self.failed {
             return "";
@@ -133,8 +133,8 @@ impl Lines {
         self.tell(text, &[]);
     }
 
-    /// Puts the line of a place at the end, and below it a mark under the place. Of a long line the part
-    /// around the place is shown.
+    /// Puts the line of a place at the end, and below it a mark under the place. Of a long line the
+    /// part around the place is shown.
     pub fn mark(&mut self, text: &[u8], place: Place) {
         let col = place.col as usize;
         let from = if col <= LAST_WHOLE { 0 } else { col - BEFORE };

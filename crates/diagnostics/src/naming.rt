@@ -25,7 +25,7 @@ fn add_stop(out: &mut Lines, name: &[u8], at: usize, why: &[u8]) {
 /// How an assertion is written, in a period of so many units.
 fn add_form(out: &mut Lines, units: u64) {
     out.tell(
-        b"an assertion is .S, .P or .C and intervals of the units 0 to %, as in 2-3,5-6, none of them empty;",
+        b"an assertion is .S alone, or .S, .P or .C and intervals of the units 0 to %, as in 2-3,5-6, none of them empty;",
         &[Number(units)],
     );
     out.note(

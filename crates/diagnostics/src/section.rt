@@ -19,8 +19,8 @@ pub fn add_section(out: &mut Lines, text: &[u8], from: usize, section: u32) {
     );
 }
 
-/// Of a section that is refused, counted from 1, which begins at a byte of the text and has these lines: which it
-/// is, and that nothing stands in it where nothing does.
+/// Of a section that is refused, counted from 1, which begins at a byte of the text and has these
+/// lines: which it is, and that nothing stands in it if nothing does.
 pub fn explain_section(
     alloc: Global,
     text: &[u8],
@@ -39,7 +39,8 @@ pub fn explain_section(
     out
 }
 
-/// How many nets have neither a driver nor an assertion, and are set by no case; nothing if there are none.
+/// How many nets have neither a driver nor an assertion, and are set by no case; nothing if there
+/// are none.
 pub fn explain_undriven(alloc: Global, count: u32) -> Lines {
     let mut out = Lines::new(alloc);
     let sentence: &[u8] = match count {

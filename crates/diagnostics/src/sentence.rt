@@ -2,7 +2,7 @@
 
 use scald_base::RefusalKind;
 
-/// What is wrong where a text is refused so.
+/// What is wrong if a text is refused so.
 pub fn sentence(kind: RefusalKind) -> &'static [u8] {
     match kind {
         RefusalKind::BadByte =>

@@ -71,7 +71,7 @@ impl Text<'_> {
         0
     }
 
-    /// The tokens of the macro or the drawing of a name, or all where its base is global.
+    /// The tokens of the macro or the drawing of a name, or all if its base is global.
     pub fn scope_of(&self, i: usize) -> Span {
         let all = self.tokens.len();
         let from = self.head_of(i);
@@ -145,7 +145,8 @@ impl Text<'_> {
         None
     }
 
-    /// What stands in brackets of a kind that open at a token, and the token after them; nothing where none open.
+    /// What stands in brackets of a kind that open at a token, and the token after them; nothing
+    /// if none open.
     fn group(&self, i: usize, open: u8) -> (Span, usize) {
         let mut depth: usize = 0;
         for to in i..self.tokens.len() {
@@ -165,7 +166,7 @@ impl Text<'_> {
         (Span { from: i, to: i }, i)
     }
 
-    /// The use with this label, or the head of a macro where the token before MACRO is given.
+    /// The use with this label, or the head of a macro if the token before MACRO is given.
     pub fn use_at(&self, label: usize) -> Use {
         let kind = label.saturating_add(2);
         let (delay, next) = self.group(kind.saturating_add(1), b'[');
@@ -244,7 +245,8 @@ impl Text<'_> {
         None
     }
 
-    /// The first and the last bit of a range that is written in digits, and 0 where no range begins at a token.
+    /// The first and the last bit of a range that is written in digits, and 0 if no range begins
+    /// at a token.
     fn range(&self, i: usize) -> Option<(u64, u64)> {
         let from = i.saturating_add(1);
         let to = from.saturating_add(3);
@@ -260,8 +262,8 @@ impl Text<'_> {
         }
     }
 
-    /// The first and the last bit of a name in a macro with this head, where they are written in digits or go
-    /// without saying.
+    /// The first and the last bit of a name in a macro with this head, if they are written in
+    /// digits or go without saying.
     pub fn bits(&self, head: Span, i: usize) -> Option<(u64, u64)> {
         let next = i.saturating_add(1);
         if self.symbol(next) == b'<' {

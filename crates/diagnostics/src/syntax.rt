@@ -297,7 +297,7 @@ fn add_word(out: &mut Lines, text: &Text, i: usize, start: usize) {
     }
 }
 
-/// What may help where no drawing goes on with a token.
+/// What may help if no drawing goes on with a token.
 pub fn add_syntax(out: &mut Lines, text: &Text, i: usize) {
     add_standing(out, text, i);
     let start = text.start_of(i);

@@ -5,8 +5,8 @@ use scald_base::Place;
 use scald_lex::{Token, TokenKind, TokenList, tokens};
 use std::alloc::Global;
 
-/// A text with its tokens. A token is named by its number in the list, from 0; past the end there are tokens
-/// of no bytes.
+/// A text with its tokens. A token is named by its number in the list, from 0; past the end there
+/// are tokens of no bytes.
 #[derive(Clone, Copy)]
 pub struct Text<'a> {
     pub bytes: &'a [u8],
@@ -21,7 +21,7 @@ const END: Token = Token {
     end: 0,
 };
 
-/// The tokens of a text, and none where it has no tokens, is too long or memory runs out.
+/// The tokens of a text, and none if it has no tokens, is too long or memory runs out.
 pub fn tokens_of(alloc: Global, text: &[u8]) -> TokenList {
     if u32::MAX as usize <= text.len() {
         return TokenList::new(alloc);
@@ -136,7 +136,7 @@ impl<'a> Text<'a> {
         words.contains(&self.word(i))
     }
 
-    /// The symbol that it is, and 0 where it is none of one byte.
+    /// The symbol that it is, and 0 if it is none of one byte.
     pub fn symbol(&self, i: usize) -> u8 {
         match self.token(i).kind {
             TokenKind::Symbol(byte) => byte,

@@ -73,7 +73,8 @@ pub fn add_over(out: &mut Lines, number: u64, most: u64) {
     out.tell(b"% is more than %", &[Number(number), Number(most)]);
 }
 
-/// What is wrong with a least and a greatest delay that are written in digits, where the greatest may be so much.
+/// What is wrong with a least and a greatest delay that are written in digits, if the greatest
+/// may be so much.
 pub fn add_pair(out: &mut Lines, pair: Option<(u64, u64)>, most: u64) {
     match pair {
         Some((a, b)) if b < a => {
@@ -121,7 +122,7 @@ fn given(text: &Text, list: Span, name: &[u8]) -> Option<usize> {
     (list.from..list.to).find(|j| text.is(*j, name) && text.is_given(*j))
 }
 
-/// The number that a list gives a limit, and 0 where it gives none in digits.
+/// The number that a list gives a limit, and 0 if it gives none in digits.
 fn limit_of(text: &Text, list: Span, name: &[u8]) -> u64 {
     let equals = given(text, list, name).unwrap_or(list.to);
     text.number(equals.saturating_add(2)).unwrap_or(0)
@@ -173,14 +174,15 @@ pub fn add_bounds(out: &mut Lines, text: &Text, start: usize) {
     }
 }
 
-/// What has parameters: a kind, or else a macro, and the numbers of these; a macro's are those of its tokens.
+/// What has parameters: a kind, or else a macro, and the numbers of these; a macro's are those of
+/// its tokens.
 #[derive(Clone, Copy)]
 struct Owner {
     kind: Option<Kind>,
     list: Span,
 }
 
-/// What the kind of a use names, where that is a kind or a macro.
+/// What the kind of a use names, if that is a kind or a macro.
 fn owner_of(text: &Text, name: &[u8]) -> Option<Owner> {
     let kind = kind_named(name);
     let list = if kind.is_some() {
@@ -192,7 +194,7 @@ fn owner_of(text: &Text, name: &[u8]) -> Option<Owner> {
     Some(Owner { kind, list })
 }
 
-/// The parameter of this number; nothing where none has it.
+/// The parameter of this number; nothing if none has it.
 fn parameter<'a>(text: &Text<'a>, owner: Owner, number: usize) -> &'a [u8] {
     let Some(kind) = owner.kind else {
         return if text.is_given(number) {

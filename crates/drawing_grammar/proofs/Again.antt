@@ -110,7 +110,7 @@ drawn_again v h s known text tokens are built good e is =
           ∙ (ap (λ (cs : List tree.Assignment). length cs) again.consts ∙ sym known.proper.consts.places))) again.macros again.name again.body again.cases;
     })
 
--- what holds of what a text stands for, where it draws
+-- what holds of what a text stands for, if it draws
 pub record IsDrawnSketch (h : Header) (s : Sketch) : Type 0 where
   pub header : judged s.header ≡ Ok h
   pub proper : IsSketchOf (λ n. IsGoodName h n) (edition_by s.header.version) s
@@ -135,7 +135,7 @@ drawn_sketch text d x =
       modest = sketch_modest v w (subst W (sym draws.text.spelled) draws.text.within);
     }
 
--- The canonical text of the drawing draws it, where that does not nest too deep.
+-- The canonical text of the drawing draws it, if that does not nest too deep.
 pub sketch_draws : (h : Header) (s : Sketch) → IsDrawnSketch h s → (d : tree.Drawing) → drawing_of_sketch s ≡ d → IsShallowDrawing d → DrawsAgain (canonical d) d
 sketch_draws h s is d stands shallow =
     let v = edition_by s.header.version in

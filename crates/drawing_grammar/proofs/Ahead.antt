@@ -1,4 +1,4 @@
--- How much a step depends on the token behind the first one: on whether it is a colon, and only where the first is FOR.
+-- How much a step depends on the token behind the first one: on whether it is a colon, and only if the first is FOR.
 use Rattle.std.proofs.Common.{◌≡◌, ℕ, ◌<◌, Bool, true, false, not, ◌&&◌, if◌then◌else◌, List, [], ◌∷◌, ◌++◌, Option, Some, None, refl, sym, ap, subst, ◌∙◌, arith}
 use Rattle.std.specs.Prelude.{is_some, ⊤}
 use Rattle.drawing_grammar.specs.declared.edition.Edition.TheVariants.{First, Second}
@@ -8,7 +8,8 @@ use Rattle.drawing_grammar.specs.declared.terminal.Terminal.TheVariants as is
 use Rattle.drawing_grammar.specs.Lexeme.{Lexeme, terminal}
 use Rattle.drawing_grammar.specs.Grammar.{Part, Group, Need, mark, item, keyword, fresh, part, group, Choice, lead, cost}
 use Rattle.drawing_grammar.specs.Grammar as g
-use Rattle.drawing_grammar.specs.Sketch.{Meaning, GroupMeaning, Values, absent_value, absent_group}
+use Rattle.drawing_grammar.specs.Sketch.{Meaning, GroupMeaning, Values}
+use Rattle.drawing_grammar.specs.Absent.{absent_value, absent_group}
 use Rattle.drawing_grammar.specs.Written.{Written, spelling, weight, weights, limit, Beyond}
 use Rattle.drawing_grammar.specs.Draws.{MayBeLabel}
 use Rattle.drawing_grammar.specs.Machine.{same, is_keyword, no_colon, choice, choice_at, Step, Next, Stuck, passed, entered, group_entered, step}

@@ -32,7 +32,7 @@ begins_part {p} c t e = ap (λ (l : Terminal). is_some (choice p l)) (opens_so c
 
 -- ---- the choice that is taken
 
--- What the token behind the first one says, where a part may begin with the same token in two ways: it is no colon.
+-- What the token behind the first one says, if a part may begin with the same token in two ways: it is no colon.
 abbrev pub Behind : {p : Part} → Choice p → Bool → Type 0
 Behind g.use_ b = b ≡ false
 Behind g.for_ b = b ≡ true
@@ -49,7 +49,7 @@ pub no_loop : (a b : Bool) → b ≡ false → (a && b) ≡ false
 no_loop true b e = e
 no_loop false b e = refl
 
--- A choice is taken where a token that may begin it stands first, and the one behind it says so.
+-- A choice is taken if a token that may begin it stands first, and the one behind it says so.
 pub takes : {p : Part} (c : Choice p) (t : Lexeme) (ts : List Lexeme) → MayOpen c t → Behind c (no_colon ts) →
     choice_at p t ts ≡ Some c
 takes g.constant t ts e b = ap (λ (k : Bool). if k then Some g.constant else None) (is_that_keyword Const t e)

@@ -84,7 +84,7 @@ breaks_on (b ∷ bs) rest h = h
 
 -- ---- texts that are these tokens
 
--- Whatever stands behind, where no word goes on there.
+-- Whatever stands behind, if no word goes on there.
 pub record Spells (s : List ℕ) (ts : List Bare) : Type 0 where
   pub allowed : list_all is_allowed s ≡ true
   pub lexes : (rest : List ℕ) → stops rest ≡ true → Lexes (s ++ rest) ts rest

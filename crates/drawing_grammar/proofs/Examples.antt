@@ -27,7 +27,7 @@ comparison = Binary Eq a a
 
 -- ---- how deep they nest
 
--- A minus is open, and another parenthesis where its operand stands in one: -A, -(-A), -(A + A),
+-- A minus is open, and another parenthesis if its operand stands in one: -A, -(-A), -(A + A),
 -- -(A * A), -(A = A)
 minuses : map nesting (Negate a ∷ Negate (Negate a) ∷ Negate sum ∷ Negate product ∷ Negate
     comparison ∷ []) ≡ 1 ∷ 3 ∷ 2 ∷ 2 ∷ 2 ∷ []

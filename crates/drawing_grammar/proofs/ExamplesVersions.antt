@@ -167,7 +167,7 @@ second = codes "2"
 
 -- ---- labels
 
--- FOR is a label where a colon follows, in either version.
+-- FOR is a label if a colon follows, in either version.
 label : map (λ version. body (text version (codes "FOR:DO();"))) (first ∷ second ∷ [])
     ≡ one (use_at 32 (codes "FOR") (codes "DO")) ∷ one (use_at 32 (codes "FOR") (codes "DO")) ∷ []
 unfolding verdict piece_at word_at number_at word_terminal symbol_terminal

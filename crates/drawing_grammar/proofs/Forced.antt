@@ -9,7 +9,8 @@ use Rattle.drawing_grammar.specs.declared.terminal.Terminal.{Terminal}
 use Rattle.drawing_grammar.specs.declared.terminal.Terminal.TheVariants as is
 use Rattle.drawing_grammar.specs.Lexeme.{Lexeme, terminal}
 use Rattle.drawing_grammar.specs.Grammar.{Part, Group, keyword_text, Need, mark, item, keyword, fresh, part, group, Choice, following, lead, others}
-use Rattle.drawing_grammar.specs.Sketch.{Meaning, GroupMeaning, Values, absent_value, absent_group}
+use Rattle.drawing_grammar.specs.Sketch.{Meaning, GroupMeaning, Values}
+use Rattle.drawing_grammar.specs.Absent.{absent_value, absent_group}
 use Rattle.drawing_grammar.specs.Written.{MayOpen, Written, nothing, marked, token, worded, begun, chosen, left_out, grouped, lacking, spelling, weights, values}
 use Rattle.drawing_grammar.specs.Machine.{same, is_keyword, no_colon, choice, choice_at, Step, Next, Stuck, passed, entered, group_entered, step}
 use Rattle.drawing_grammar.proofs.Terminals.{is_same, tested_at}
@@ -267,7 +268,7 @@ pub later_chained : (needs : List Need) (a : ℕ) (t : Lexeme) (ts : List Lexeme
     (build : Values later → Values needs) → Chained needs → step needs a t ts ≡ Next later b m build → Chained later
 later_chained needs a t ts later b m build c e = subst (λ (x : Step needs). Chains x) e (step_chains needs a t ts c)
 
--- the choice that is taken of a first token t, before ts, where what is written begins with t and goes on with zs
+-- the choice that is taken of a first token t, before ts, if what is written begins with t and goes on with zs
 taken_first : {p : Part} (c : Choice p) (n : ℕ) (rest : List Need) (u : Lexeme) (h : MayOpen c u)
     (w : Written (following c n ++ rest)) (t : Lexeme) (ts zs : List Lexeme) → u ≡ t → spelling w ≡ zs →
     no_colon zs ≡ no_colon ts → choice_at p t ts ≡ Some c
@@ -276,7 +277,7 @@ taken_first {p} c n rest u h w t ts zs k i alike =
     ∙ (same_choice p u ts (spelling w) (sym alike ∙ sym (ap no_colon i))
     ∙ takes c u (spelling w) h (behind_says c n rest w))
 
--- What is written and begins with a token is what the step of that token says, where the tokens behind it are alike
+-- What is written and begins with a token is what the step of that token says, if the tokens behind it are alike
 -- in so far as the step looks at them.
 pub forced : {needs : List Need} (w : Written needs) (a : ℕ) (t : Lexeme) (ts zs : List Lexeme) →
     no_colon zs ≡ no_colon ts → Chained needs → spelling w ≡ t ∷ zs → Forces w a zs (step needs a t ts)

@@ -14,7 +14,7 @@ use Rattle.drawing_grammar.proofs.CanonicalTokens.{equals, exclamation, less, gr
 use Rattle.drawing_grammar.proofs.Drawable.{IsDrawn}
 use Rattle.drawing_grammar.proofs.Levels.{Levels}
 
--- its tokens and how deep it nests, in parentheses where they are asked for
+-- its tokens and how deep it nests, in parentheses if they are asked for
 abbrev pub tokens_at : Bool → Expression → List Bare
 tokens_at asked x = enclosed_tokens asked (condition_tokens x)
 

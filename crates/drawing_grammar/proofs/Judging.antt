@@ -1,4 +1,4 @@
--- What passed where a header is judged good.
+-- What passed if a header is judged good.
 use Rattle.std.proofs.Common.{◌≡◌, Bool, true, false, ℤ, Option, Some, None, refl}
 use Rattle.std.specs.Prelude.{IfSome, Result, Ok}
 use Rattle.scald_base.specs.declared.refusal.Place.{Place}

@@ -11,7 +11,8 @@ use Rattle.drawing_grammar.specs.declared.edition.Edition.TheVariants.{First, Se
 use Rattle.drawing_grammar.specs.Lexeme.{Lexeme, terminal, word_terminal, symbol_terminal}
 use Rattle.drawing_grammar.specs.Grammar.{Part, Group, keyword_text, Need, mark, item, keyword, fresh, part, group}
 use Rattle.drawing_grammar.specs.Grammar as g
-use Rattle.drawing_grammar.specs.Sketch.{Meaning, GroupMeaning, Values, absent_value, absent_group}
+use Rattle.drawing_grammar.specs.Sketch.{Meaning, GroupMeaning, Values}
+use Rattle.drawing_grammar.specs.Absent.{absent_value, absent_group}
 use Rattle.drawing_grammar.specs.Written.{Written, nothing, marked, token, worded, begun, chosen, left_out, grouped, lacking, spelling, values}
 use Rattle.drawing_grammar.specs.Machine.{Verdict, Complete, Refused, given, finish, finish_part, finish_group, nowhere}
 use Rattle.drawing_grammar.proofs.Follow.{leads}
@@ -211,7 +212,7 @@ least (fresh ∷ rest) = begun (least rest)
 least (part p n ∷ rest) = least_part p n rest (least rest)
 least (group h n ∷ rest) = least_group h n rest (least rest)
 
--- ---- what is needed where no token is left
+-- ---- what is needed if no token is left
 
 abbrev pub IsRefused : {needs : List Need} → Verdict needs → Type 0
 IsRefused (Complete v) = ⊥
@@ -305,7 +306,7 @@ unfinished (fresh ∷ rest) r = fresh_more rest (finish rest) (unfinished rest) 
 unfinished (part p n ∷ rest) r = part_more p n rest (absent_value p) refl (finish rest) (unfinished rest) r
 unfinished (group h n ∷ rest) r = group_more h n rest (absent_group h) refl (finish rest) (unfinished rest) r
 
--- ---- where nothing more is needed
+-- ---- if nothing more is needed
 
 pub record Done (needs : List Need) (v : Values needs) : Type 0 where
   pub written : Written needs

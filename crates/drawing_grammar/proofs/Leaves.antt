@@ -27,7 +27,7 @@ none_by : (p : ℕ → Bool) → ((b : ℕ) → p b ≡ true → is_word_byte b 
 none_by p h b bs true e k = absurd (let x : is_word_byte b ≡ true = h b e in cc)
 none_by p h b bs false e k = rw e refl
 
--- Where no word goes on, nothing of a word stands.
+-- If no word goes on, nothing of a word stands.
 pub none_at_stop : (p : ℕ → Bool) → ((b : ℕ) → p b ≡ true → is_word_byte b ≡ true) → (rest : List ℕ) → stops rest ≡ true → prefix_len p rest ≡ 0
 none_at_stop p h [] k = refl
 none_at_stop p h (b ∷ bs) k = none_by p h b bs (p b) refl (not-true (is_word_byte b) k)

@@ -9,7 +9,8 @@ use Rattle.drawing_grammar.specs.Lexeme.{Lexeme, terminal_by}
 use Rattle.drawing_grammar.specs.declared.terminal.Keyword.TheVariants.{Const, For}
 use Rattle.drawing_grammar.specs.Grammar as g
 use Rattle.drawing_grammar.specs.Grammar.{Part, Group, keyword_text, Need, mark, item, keyword, fresh, part, group, Choice, opening, following, lead, others, cost}
-use Rattle.drawing_grammar.specs.Sketch.{Meaning, GroupMeaning, Values, front, behind, choice_value, absent_value, group_value, absent_group}
+use Rattle.drawing_grammar.specs.Sketch.{Meaning, GroupMeaning, Values, front, behind, choice_value, group_value}
+use Rattle.drawing_grammar.specs.Absent.{absent_value, absent_group}
 use Rattle.drawing_grammar.specs.Written.{weight, counted, limit}
 use Rattle.drawing_grammar.specs.Machine.{same, is_keyword, no_colon, choice, Verdict, Complete, Refused, given, verdict}
 use Rattle.drawing_grammar.specs.Front.{first_terminal, first_choice, At}
@@ -19,7 +20,7 @@ use Rattle.drawing_grammar.proofs.Cutting.{Bare}
 use Rattle.drawing_grammar.proofs.Matching.{bare, Are, terminal_is, text_is}
 use Rattle.drawing_grammar.proofs.Moves.{mark_moves, item_moves, keyword_moves, enters, too_deep, skips, begins, always, leads_by, leads_on, skips_group}
 
--- Tokens that are these are read where these are needed, after some operators.
+-- Tokens that are these are read if these are needed, after some operators.
 pub record LeftOver (bs : List Bare) (needs : List Need) : Type 0 where
   pub tokens : List Lexeme
   pub are : Are tokens bs

@@ -1,6 +1,5 @@
 -- The levels of the grammar of expressions, from an operand to a whole condition, and how each is
--- made of others, whatever is said of
--- the tokens of an expression at each of them.
+-- made of others, whatever is said of the tokens of an expression at each of them.
 use Rattle.std.proofs.Common.{◌≡◌, ℕ, suc, List, [], ◌∷◌, ◌++◌}
 use Rattle.std.specs.Prelude.{max, ℤ}
 use Rattle.std.specs.Fmt.{signed_decimal}

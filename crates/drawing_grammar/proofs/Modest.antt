@@ -14,7 +14,8 @@ use Rattle.drawing_grammar.specs.declared.edition.Edition.TheVariants.{First, Se
 use Rattle.drawing_grammar.specs.Lexeme.{Lexeme}
 use Rattle.drawing_grammar.specs.Grammar.{Part, Group, Need, mark, item, keyword, fresh, part, group, Choice, following, others, lead, cost}
 use Rattle.drawing_grammar.specs.Grammar as g
-use Rattle.drawing_grammar.specs.Sketch.{Sketch, Meaning, GroupMeaning, Values, front, behind, binary, less_or, greater_or, choice_value, absent_value, group_value, absent_group}
+use Rattle.drawing_grammar.specs.Sketch.{Sketch, Meaning, GroupMeaning, Values, front, behind, binary, less_or, greater_or, choice_value, group_value}
+use Rattle.drawing_grammar.specs.Absent.{absent_value, absent_group}
 use Rattle.drawing_grammar.specs.Written.{Written, nothing, marked, token, worded, begun, chosen, left_out, grouped, lacking, spelling, weights, weight, counted, values, limit, Within}
 
 -- ---- trees within the limits
@@ -48,7 +49,7 @@ pub record IsFewWire (w : tree.WireStatement) : Type 0 where
   pub min : IsFew w.min
   pub max : IsFew w.max
 
--- where n IFs and FORs are open
+-- if n IFs and FORs are open
 abbrev mutual
   pub IsModestStatement : ℕ → tree.Statement → Type 0
   IsModestStatement n (tree.Use u) = IsFewUse u
@@ -78,7 +79,7 @@ pub record IsModestSketch (s : Sketch) : Type 0 where
   pub macros : AllByRecursion IsModestMacro s.macros.macros
   pub body : AreModest 0 s.body
 
--- ---- what parts, groups and needs stand for, where a operators came before and b with them
+-- ---- what parts, groups and needs stand for, if a operators came before and b with them
 
 pub record Counts (x : Expression) (a b : ℕ) : Type 0 where
   pub sum : a + operators x ≡ b

@@ -14,7 +14,8 @@ use Rattle.drawing_grammar.specs.declared.terminal.Terminal.{Terminal}
 use Rattle.drawing_grammar.specs.declared.terminal.Terminal.TheVariants as is
 use Rattle.drawing_grammar.specs.Lexeme.{Lexeme, terminal}
 use Rattle.drawing_grammar.specs.Grammar.{Part, Unary, Group, keyword_text, Need, mark, item, keyword, fresh, part, group, Choice, following, lead, others, cost}
-use Rattle.drawing_grammar.specs.Sketch.{Meaning, GroupMeaning, Values, front, behind, choice_value, absent_value, group_value, absent_group}
+use Rattle.drawing_grammar.specs.Sketch.{Meaning, GroupMeaning, Values, front, behind, choice_value, group_value}
+use Rattle.drawing_grammar.specs.Absent.{absent_value, absent_group}
 use Rattle.drawing_grammar.specs.Written.{weight, counted, limit}
 use Rattle.drawing_grammar.specs.Machine.{same, choice, choice_at, Step, Next, Stuck, passed, entered, group_entered, step, Verdict, Complete, Refused, given, refusal, finish, finish_part, finish_group, go_on, verdict, Moves, Says, Fails}
 use Rattle.drawing_grammar.specs.Front.{first_terminal, first_choice, first_place, AtKeyword, At}
@@ -192,7 +193,7 @@ no_end : (p : Part) → is_some (choice p is.EndOfText) ≡ false
 no_end Unary = refl
 no_end _ = refl
 
--- It does where its first part may begin so, unless that is a constant.
+-- It does if its first part may begin so, unless that is a constant.
 pub leads_by : (h : Group) (ts : List Lexeme) → is_constant (lead h) ≡ false →
     is_some (choice (lead h) (first_terminal ts)) ≡ true → Leads h ts
 leads_by h [] k e = let z = no_end (lead h) in absurd cc

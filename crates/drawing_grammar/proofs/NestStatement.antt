@@ -233,7 +233,7 @@ condition_held x is more rest b =
           r.left;
     }
 
--- a FOR, where its statements are held so
+-- a FOR, if its statements are held so
 for_held : (var : List ℕ) (first last : Expression) (ss : tree.Statements) (place : Place) → IsFreeWord var →
     IsDrawn first → IsDrawn last →
     ((n : ℕ) (more : List Bare) (rest : List Need) → choice (g.Statement Second) (first_of more) ≡ None →

@@ -47,7 +47,7 @@ own_test x is ts are rest w =
     let few = is.few in
     record { written = begun (grouped b.written); spelled = b.spelled; stands = b.stands; others = b.others; fits = λ f a. b.fits 0 (omega arith) (omega arith) (f (0 + operators x)) }
 
--- ---- statements within the limits, where n IFs and FORs are open
+-- ---- statements within the limits, if n IFs and FORs are open
 
 pub record IsShortWire (w : tree.WireStatement) : Type 0 where
   pub name : IsName w.name
@@ -181,7 +181,7 @@ for_spelled ts z0 ends z1 inside h0 dos h1 last h2 tos h3 first h4 eqs fors vars
     ∙ (append_assoc (first ++ o ∷ []) last (d ∷ (inside ++ k ∷ s ∷ rest))
     ∙ append_assoc first (o ∷ []) (last ++ d ∷ (inside ++ k ∷ s ∷ rest))))))))
 
--- a FOR, where its statements are built so
+-- a FOR, if its statements are built so
 for_built : (var : List ℕ) (first last : Expression) (ss : tree.Statements) (place : Place) (n : ℕ) → suc n ≤ limit →
     IsFreeWord var → IsShort first → IsShort last →
     ((us : List Lexeme) → Are us (statements_tokens ss) → (later : List Need) (x : Written later) → StatementsBuilt Second ss (suc n) us later x) →

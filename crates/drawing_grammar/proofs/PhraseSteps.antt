@@ -8,7 +8,7 @@ use Rattle.drawing_grammar.specs.Sketch.{Placed, PlacedList, with_item}
 use Rattle.drawing_grammar.specs.Written.{Written, spelling, weights, Within}
 use Rattle.drawing_grammar.proofs.Cutting.{Bare}
 
--- The tokens of what is written are within the limits, where so many operators came before.
+-- The tokens of what is written are within the limits, if so many operators came before.
 abbrev pub Fits : {needs : List Need} → Written needs → ℕ → Type 0
 Fits w a = Within (spelling w) (weights w a)
 

@@ -134,7 +134,7 @@ use_spelled ts z0 semi z1 outs z2 ins z3 params z4 delay z5 kind label colons t 
     ∙ (append_assoc (delay ++ params) ins (outs ++ s ∷ rest)
     ∙ append_assoc delay params (ins ++ (outs ++ s ∷ rest)))))))
 
--- a use, where n IFs and FORs are open
+-- a use, if n IFs and FORs are open
 pub record UseBuilt (v : Edition) (u : tree.UseStatement) (n : ℕ) (ts : List Lexeme) (rest : List Need) (w : Written rest) : Type 0 where
   pub written : Written (part (Statement v) n ∷ rest)
   pub spelled : spelling written ≡ ts ++ spelling w

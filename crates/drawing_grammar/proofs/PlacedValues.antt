@@ -12,7 +12,8 @@ use Rattle.drawing_grammar.specs.declared.edition.Edition.TheVariants.{First, Se
 use Rattle.drawing_grammar.specs.Lexeme.{Lexeme}
 use Rattle.drawing_grammar.specs.Grammar.{Part, Group, Need, mark, item, keyword, fresh, part, group, Choice, following, others, lead}
 use Rattle.drawing_grammar.specs.Grammar as g
-use Rattle.drawing_grammar.specs.Sketch.{PlacedConstants, HeadedMacro, HeadedMacros, Sketch, Meaning, GroupMeaning, Values, front, behind, choice_value, absent_value, group_value, absent_group}
+use Rattle.drawing_grammar.specs.Sketch.{PlacedConstants, HeadedMacro, HeadedMacros, Sketch, Meaning, GroupMeaning, Values, front, behind, choice_value, group_value}
+use Rattle.drawing_grammar.specs.Absent.{absent_value, absent_group}
 use Rattle.drawing_grammar.specs.Written.{Written, nothing, marked, token, worded, begun, chosen, left_out, grouped, lacking, spelling, values}
 
 -- ---- what has places besides the tree

@@ -14,7 +14,8 @@ use Rattle.drawing_grammar.specs.declared.edition.Edition.TheVariants.{First, Se
 use Rattle.drawing_grammar.specs.Lexeme.{Lexeme, terminal, number_of}
 use Rattle.drawing_grammar.specs.Grammar.{Part, Group, Need, mark, item, keyword, fresh, part, group, Choice, following, others, lead}
 use Rattle.drawing_grammar.specs.Grammar as g
-use Rattle.drawing_grammar.specs.Sketch.{Placed, PlacedList, Meaning, GroupMeaning, Values, front, behind, choice_value, absent_value, group_value, absent_group, signal_of, capped}
+use Rattle.drawing_grammar.specs.Sketch.{Placed, PlacedList, Meaning, GroupMeaning, Values, front, behind, choice_value, group_value, signal_of, capped}
+use Rattle.drawing_grammar.specs.Absent.{absent_value, absent_group}
 use Rattle.drawing_grammar.specs.Written.{MayOpen, Written, nothing, marked, token, worded, begun, chosen, left_out, grouped, lacking, spelling, values}
 use Rattle.drawing_grammar.proofs.ProperTrees.{IsItemOf, IsTermOf, IsConnectionOf, IsStatementOf, AreStatementsOf, IsOtherwiseOf, IsEntryOf, IsCaseOf, IsHeadedOf, AreMacrosOf, AreConstantsOf, IsSketchOf, AllPlaced}
 use Rattle.drawing_grammar.proofs.Drawable.{IsDrawnNumber, HasOne, IsDrawn, IsBeside, IsDrawnRange, IsDrawnAssignment, IsDrawnFormal}

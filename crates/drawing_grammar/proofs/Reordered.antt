@@ -1,4 +1,4 @@
--- The canonical text of a drawing in version 2 draws it, where some text draws one that differs in the order of connections alone.
+-- The canonical text of a drawing in version 2 draws it, if some text draws one that differs in the order of connections alone.
 use Rattle.std.proofs.Common.{◌≡◌, ℕ, pos, List, [], ◌∷◌, ◌++◌, length, suc, refl, sym, ap, ◌∙◌, subst}
 use Rattle.std.specs.Prelude.{All, Contains}
 use Rattle.std.specs.List.{AllByRecursion}
@@ -170,7 +170,7 @@ as_many _ _ r = absurd r
 
 -- ---- the law
 
--- what stands for the second drawing, where this stands for the first
+-- what stands for the second drawing, if this stands for the first
 abbrev reordered : Sketch → tree.Drawing → Sketch
 reordered s e =
     let header = s.header in

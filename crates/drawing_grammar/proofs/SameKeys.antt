@@ -1,4 +1,4 @@
--- Keys of declarations are the same where their parts are.
+-- Keys of declarations are the same if their parts are.
 use Rattle.std.proofs.Common.{◌≡◌, ℕ, suc, true, ◌&&◌, List, ◌∷◌, refl, arith, nat_eq, subst}
 use Rattle.std.specs.Prelude.{Contains}
 use Rattle.std.specs.Str.{bytes_eq}

@@ -8,7 +8,8 @@ use Rattle.drawing_grammar.specs.declared.terminal.Terminal.{Terminal}
 use Rattle.drawing_grammar.specs.declared.terminal.Terminal.TheVariants as is
 use Rattle.drawing_grammar.specs.Lexeme.{Lexeme, terminal}
 use Rattle.drawing_grammar.specs.Grammar.{Part, Group, keyword_text, Need, mark, item, keyword, fresh, part, group, Choice, lead}
-use Rattle.drawing_grammar.specs.Sketch.{Meaning, GroupMeaning, Values, absent_value, absent_group}
+use Rattle.drawing_grammar.specs.Sketch.{Meaning, GroupMeaning, Values}
+use Rattle.drawing_grammar.specs.Absent.{absent_value, absent_group}
 use Rattle.drawing_grammar.specs.Written.{MayOpen, Written, marked, token, worded, begun, chosen, left_out, grouped, lacking, spelling, weights, values}
 use Rattle.drawing_grammar.specs.Machine.{same, choice_at, Step, Next, Stuck, passed, entered, group_entered, step}
 use Rattle.drawing_grammar.proofs.Terminals.{same_is}

@@ -29,7 +29,7 @@ passes : (needs later : List Need) (m : ℕ) (build : Values later → Values ne
 passes needs later m build x place r h e = ap (λ (b : Bool). if b then given {needs = needs} build x else Refused (refusal TooDeep place))
     (le-leb m limit h) ∙ ap (λ (y : Verdict later). given {needs = needs} build y) e
 
--- what is asked of the tokens behind the first one, where that is within the limits
+-- what is asked of the tokens behind the first one, if that is within the limits
 pub record FirstGoes (x : Lexeme) (before : List Lexeme) (t : Lexeme) (after : List Lexeme) (needs : List Need) (a : ℕ)
     (later : List Need) (b m : ℕ) : Type 0 where
   pub room : m ≤ limit

@@ -91,7 +91,7 @@ pub record DrawsAgain (text : List ℕ) (d : tree.Drawing) : Type 0 where
   pub draws : TextDraws text drawing
   pub same : SameButPlaces d drawing
 
--- What some text draws, its canonical text draws too, where that does not nest too deep.
+-- What some text draws, its canonical text draws too, if that does not nest too deep.
 abbrev pub CanonicalDraws : Type 0
 CanonicalDraws =
     (text : List ℕ) (d : tree.Drawing) → TextDraws text d → IsShallowDrawing d →

@@ -43,7 +43,7 @@ MayBeLabel t [] = terminal t ≡ Word
 MayBeLabel t (u ∷ us) = (terminal t ≡ Word) × (terminal u ≡ Colon)
 
 -- The token is beyond a limit: it is in some text that goes on with it. The word FOR may be a label
--- as well, which is never beyond a limit; it is one where a colon follows.
+-- as well, which is never beyond a limit; it is one if a colon follows.
 pub record IsDeep (v : Edition) (before : List Lexeme) (t : Lexeme) (after : List Lexeme) :
     Type 0 where
   pub beyond : BeginsBeyond v before t

@@ -207,7 +207,7 @@ from_macros v =
     group (Macros v) 0 ∷ mark Drawing ∷ item Word ∷ mark Semicolon ∷ group (Statements v) 0
     ∷ mark End ∷ mark Semicolon ∷ group Cases 0 ∷ mark EndOfText ∷ []
 
--- What follows that token, where n are open.
+-- What follows that token, if n are open.
 abbrev pub following : {p : Part} → Choice p → ℕ → List Need
 following number n = []
 following parameter n = []

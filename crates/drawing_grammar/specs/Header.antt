@@ -34,7 +34,7 @@ abbrev pub natural : ℤ → ℕ
 natural (pos n) = n
 natural (negsuc n) = 0
 
--- the two numbers, or 0 and 0 where none are written
+-- the two numbers, or 0 and 0 if none are written
 abbrev pub pair_of : Option NumberPair → ℕ × ℕ
 pair_of None = (0, 0)
 pair_of (Some pair) = (natural pair.first, natural pair.second)
@@ -56,7 +56,7 @@ header_of w = record {
 abbrev pub refused_at : Place → Refusal
 refused_at place = record { kind = BadHeader; place = place }
 
--- what is said, where the numbers of a statement are good; else the refusal at its first token
+-- what is said, if the numbers of a statement are good; else the refusal at its first token
 abbrev pub judged_statement : {A : Type 0} → Bool → Place → Result A Refusal → Result A Refusal
 judged_statement good place said = if good then said else Err (refused_at place)
 
@@ -66,7 +66,7 @@ abbrev pub judged_pair : {A : Type 0} → (ℤ → ℤ → Bool) → Option Numb
 judged_pair test None said = said
 judged_pair test (Some pair) said = judged_statement (test pair.first pair.second) pair.place said
 
--- the header, where the numbers of all its statements are good; else the refusal of the first that
+-- the header, if the numbers of all its statements are good; else the refusal of the first that
 -- has another
 abbrev pub judged : WrittenHeader → Result Header Refusal
 judged w =

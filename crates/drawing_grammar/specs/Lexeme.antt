@@ -1,4 +1,4 @@
--- A token with its text, and what the grammar tells apart among tokens.
+-- A token with its text, and what the grammar distinguishes among tokens.
 use Rattle.std.specs.Prelude.{ℕ, ◌==◌, ◌||◌, Bool, false, ℤ, pos, if◌then◌else◌, List, [], ◌∷◌, codes, map, slice_range}
 use Rattle.std.specs.Str.{bytes_eq}
 use Rattle.scald_base.specs.declared.refusal.Place.{Place}
@@ -21,7 +21,7 @@ lexeme_of text t = record { kind = t.kind; text = slice_range text t.start t.end
 abbrev pub lexemes : List ℕ → List lex.Token → List Lexeme
 lexemes text tokens = map (lexeme_of text) tokens
 
--- a word stands for itself where it is reserved
+-- a word stands for itself if it is reserved
 unfoldable pub word_terminal : List ℕ → Terminal
 word_terminal word =
     if bytes_eq word (codes "SCALD") then Scald

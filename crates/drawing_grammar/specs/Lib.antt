@@ -2,6 +2,7 @@ pub mod Lexeme
 pub mod Edition
 pub mod Grammar
 pub mod Sketch
+pub mod Absent
 pub mod Written
 pub mod Draws
 pub mod Names

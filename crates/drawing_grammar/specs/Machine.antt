@@ -16,7 +16,8 @@ use Rattle.drawing_grammar.specs.declared.edition.Edition.TheVariants.{Second}
 use Rattle.drawing_grammar.specs.Lexeme.{Lexeme, terminal}
 use Rattle.drawing_grammar.specs.Grammar.{Part, Group, keyword_text, Need, mark, item, keyword, fresh, part, group, Choice, following, lead, others, cost}
 use Rattle.drawing_grammar.specs.Grammar as g
-use Rattle.drawing_grammar.specs.Sketch.{Meaning, GroupMeaning, Values, front, behind, choice_value, absent_value, group_value, absent_group}
+use Rattle.drawing_grammar.specs.Sketch.{Meaning, GroupMeaning, Values, front, behind, choice_value, group_value}
+use Rattle.drawing_grammar.specs.Absent.{absent_value, absent_group}
 use Rattle.drawing_grammar.specs.Written.{weight, counted, limit}
 
 -- each terminal has a number of its own
@@ -150,7 +151,7 @@ abbrev pub passed : {needs later : List Need} → Step later → (Values later �
 passed (Next later a m build) f = Next later a m (λ v. f (build v))
 passed Stuck f = Stuck
 
--- a part, where the choice that begins so is this
+-- a part, if the choice that begins so is this
 abbrev pub entered : (p : Part) (n : ℕ) (rest : List Need) → ℕ → Lexeme → Option (Choice p) →
     Option (Meaning p) → Step rest → Step (part p n ∷ rest)
 entered p n rest a t (Some c) absent skip = Next (following c n ++ rest) (counted (cost c) a)
@@ -225,7 +226,7 @@ go_on (Next later a m build) next place =
     if nat_le m limit then given build (next later a) else Refused (refusal TooDeep place)
 go_on Stuck next place = Refused (refusal Syntax place)
 
--- What the tokens give of what is needed, where a binary operators of the expression came before.
+-- What the tokens give of what is needed, if a binary operators of the expression came before.
 unfoldable pub verdict : List Lexeme → (needs : List Need) → ℕ → Verdict needs
 verdict [] needs a = finish needs
 verdict (t ∷ ts) needs a = go_on (step needs a t ts) (verdict ts) t.place

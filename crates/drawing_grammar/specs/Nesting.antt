@@ -4,7 +4,7 @@ use Rattle.std.specs.Prelude.{ℕ, suc, ◌+◌, Bool, if◌then◌else◌, max}
 use Rattle.drawing_tree.specs.Expression.{Expression, Number, Param, Negate, Binary}
 use Rattle.drawing_tree.specs.ExpressionText.{left_enclosed, right_enclosed, minus_enclosed, is_comparison}
 
--- one more where it stands in parentheses
+-- one more if it stands in parentheses
 abbrev pub enclosed_nesting : Bool → ℕ → ℕ
 enclosed_nesting asked depth = if asked then suc depth else depth
 

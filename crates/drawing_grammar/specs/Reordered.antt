@@ -46,8 +46,8 @@ pub record IsReordered (d e : Drawing) : Type 0 where
   pub macros : AreReorderedMacros d.macros e.macros
   pub body : AreReordered d.body e.body
 
--- Where some text draws a drawing, one of version 2 that differs from it in that order alone is
--- drawn by its canonical text, places aside, where that does not nest too deep.
+-- If some text draws a drawing, one of version 2 that differs from it in that order alone is
+-- drawn by its canonical text, places aside, if that does not nest too deep.
 abbrev pub ReorderedDraws : Type 0
 ReorderedDraws =
     (text : List ℕ) (d e : Drawing) → TextDraws text d → IsReordered d e → IsShallowDrawing e →

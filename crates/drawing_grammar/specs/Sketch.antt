@@ -349,42 +349,6 @@ choice_value (g.text {v = e}) n t
       cskew = cskew;
     }) (constants_of e (from_macros e) more) (behind_constants e (from_macros e) more)
 
--- What a part stands for where it is left out; a part without such a value is never left out.
-abbrev pub absent_value : (p : Part) → Option (Meaning p)
-absent_value g.Unary = None
-absent_value g.Factors = Some (λ left. left)
-absent_value g.Terms = Some (λ left. left)
-absent_value g.Comparison = Some (λ left. left)
-absent_value g.OrEqual = Some false
-absent_value g.Range = Some None
-absent_value g.RangeEnd = Some None
-absent_value g.Parameters = Some no_items
-absent_value g.Assign = None
-absent_value g.MoreAssigns = Some no_items
-absent_value g.Formal = None
-absent_value g.MoreFormals = Some no_items
-absent_value g.FormalOutputs = Some no_items
-absent_value g.Delay = Some no_delays
-absent_value g.Fall = Some None
-absent_value g.Term = None
-absent_value g.Atom = None
-absent_value g.MoreTerms = Some []
-absent_value g.Hold = Some false
-absent_value g.MoreConns = Some []
-absent_value g.Outputs = Some []
-absent_value g.Constant = None
-absent_value (g.Statement v) = None
-absent_value (g.Otherwise v) = Some tree.no_else
-absent_value (g.Macro v) = None
-absent_value g.Index = Some 0
-absent_value g.Entry = None
-absent_value g.MoreEntries = Some []
-absent_value g.CaseStatement = None
-absent_value g.WireBounds = Some None
-absent_value g.PrecisionSkew = Some None
-absent_value g.ClockSkew = Some None
-absent_value (g.Text v) = None
-
 abbrev pub group_value : (g : Group) (n : ℕ) → Meaning (lead g) → Values (others g n) →
     GroupMeaning g
 group_value g.Product n first (factors, _) = factors first
@@ -401,20 +365,3 @@ group_value g.Constants n first (more, _) = with_constant first more
 group_value (g.Statements e) n first (more, _) = tree.cons first more
 group_value (g.Macros e) n first (more, _) = with_macro first more
 group_value g.Cases n first (more, _) = first ∷ more
-
--- What a group stands for where it is left out; a group without such a value is never left out.
-abbrev pub absent_group : (g : Group) → Option (GroupMeaning g)
-absent_group g.Product = None
-absent_group g.Sum = None
-absent_group g.Expr = None
-absent_group g.Conn = None
-absent_group g.SomeConns = None
-absent_group g.Conns = Some []
-absent_group g.SomeFormals = None
-absent_group g.Formals = Some no_items
-absent_group g.Assigns = None
-absent_group g.Entries = None
-absent_group g.Constants = Some no_constants
-absent_group (g.Statements v) = Some tree.nil
-absent_group (g.Macros v) = Some (record { macros = []; heads = [] })
-absent_group g.Cases = Some []

@@ -33,10 +33,9 @@ RefusedAtBytes = (text : List ℕ) (r : Refusal) → IsRefusal text r → IsPlac
 abbrev pub DrawnAtBytes : Type 0
 DrawnAtBytes = (text : List ℕ) (d : Drawing) → TextDraws text d → EachPlace (IsPlaceOf text) d
 
--- Where the canonical text of a drawing draws one, so where it is within the limits, the drawing is
--- shallow. With
--- CanonicalDraws the canonical text of a drawing that some text draws is within the limits exactly
--- where that is shallow.
+-- If the canonical text of a drawing draws one, so if it is within the limits, the drawing is
+-- shallow. With CanonicalDraws the canonical text of a drawing that some text draws is within the
+-- limits exactly if that is shallow.
 abbrev pub ShallowWhereDrawn : Type 0
 ShallowWhereDrawn = (text : List ℕ) (d e : Drawing) → TextDraws text d → TextDraws (canonical d) e →
     IsShallowDrawing d

@@ -7,7 +7,8 @@ use Rattle.drawing_grammar.specs.declared.terminal.Terminal.TheVariants.{Word}
 use Rattle.drawing_grammar.specs.declared.terminal.Keyword.TheVariants.{Const, For}
 use Rattle.drawing_grammar.specs.Lexeme.{Lexeme, terminal}
 use Rattle.drawing_grammar.specs.Grammar.{Part, Group, keyword_text, Need, mark, item, keyword, fresh, part, group, Choice, constant, for_, opening, following, lead, others, Cost, plain, opens, operator, cost}
-use Rattle.drawing_grammar.specs.Sketch.{Meaning, GroupMeaning, Values, front, behind, choice_value, absent_value, group_value, absent_group}
+use Rattle.drawing_grammar.specs.Sketch.{Meaning, GroupMeaning, Values, front, behind, choice_value, group_value}
+use Rattle.drawing_grammar.specs.Absent.{absent_value, absent_group}
 
 -- the token is this keyword
 abbrev pub Is : Keyword → Lexeme → Type 0
@@ -54,7 +55,7 @@ spelling (grouped w) = spelling w
 spelling (lacking v e w) = spelling w
 
 -- how many parentheses and minus signs, or IFs and FORs, are open with a token that opens one more,
--- and which binary operator of its expression a token is, where a came before
+-- and which binary operator of its expression a token is, if a came before
 abbrev pub weight : Cost → ℕ → ℕ → ℕ
 weight plain n a = 0
 weight opens n a = suc n
@@ -66,7 +67,7 @@ counted plain a = a
 counted opens a = a
 counted operator a = suc a
 
--- The weight of each token, where a binary operators of the expression came before. An expression
+-- The weight of each token, if a binary operators of the expression came before. An expression
 -- of its own begins with none.
 abbrev pub weights : {needs : List Need} → Written needs → ℕ → List ℕ
 weights nothing a = []

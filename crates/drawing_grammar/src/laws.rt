@@ -29,14 +29,14 @@ pub fn names_are_spelled()
     ensures { NamesAreSpelled }
 {}
 
-/// What some text draws, its canonical text draws too, places aside, where that text does not nest
+/// What some text draws, its canonical text draws too, places aside, if that text does not nest
 /// too deep: at most 64 parentheses and minus signs are open at once in an expression.
 pub fn canonical_draws()
     ensures { CanonicalDraws }
 {}
 
-/// Where some text draws a drawing, one of version 2 that differs from it in the order of input
-/// connections alone is drawn by its canonical text, places aside, where that does not nest too
+/// If some text draws a drawing, one of version 2 that differs from it in the order of input
+/// connections alone is drawn by its canonical text, places aside, if that does not nest too
 /// deep.
 pub fn reordered_draws()
     ensures { ReorderedDraws }

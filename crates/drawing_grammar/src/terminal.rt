@@ -116,7 +116,7 @@ fn is_first(byte: u8) -> bool
 pub fn word_terminal(word: &[u8]) -> Terminal
     ensures { result ≡ word_terminal word.now }
 {
-    // Most words are told by their first letter.
+    // Most words are decided by their first letter.
     if !begins_reserved(word) {
         return Terminal::Word;
     }

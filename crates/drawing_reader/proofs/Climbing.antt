@@ -137,7 +137,7 @@ no_primitive : (n : ℕ) (name : List ℕ) → Contains primitives (key n Label 
 unfolding primitives
 no_primitive n name found = let kinds = (taken_key primitive_names n Label name found).1 in cc
 
--- The body of a drawing declares nothing again, where its labels are in their order.
+-- The body of a drawing declares nothing again, if its labels are in their order.
 pub body_fresh : (cs : List tree.Assignment) (places : List Place) (ms : List tree.Macro) (hs : List Head) (ss : Statements) (mid now : List Key) →
     AreFresh (length ms) (labels (length ms) ss) → Declares primitives mid (constants cs places) → Declares mid now (macros_declared 0 ms hs) →
     Declares primitives (now ++ keys_of (labels (length ms) ss)) (constants cs places ++ (macros_declared 0 ms hs ++ labels (length ms) ss))

@@ -10,7 +10,8 @@ use Rattle.drawing_grammar.specs.declared.terminal.Terminal.TheVariants.{EndOfTe
 use Rattle.drawing_reader.specs.declared.cursor.Cursor.{Cursor}
 use Rattle.drawing_grammar.specs.Lexeme.{Lexeme}
 use Rattle.drawing_grammar.specs.Grammar.{Part, Group, Terms, Comparison, Term, Formal, MoreConns, Product, Sum, Expr, Conn, SomeConns, Conns, SomeFormals, Formals, Need, mark, item, keyword, fresh, part, group, Choice, opening, following, lead, others, Cost, plain, opens, operator, cost}
-use Rattle.drawing_grammar.specs.Sketch.{Meaning, GroupMeaning, front, behind, choice_value, absent_value, group_value, absent_group}
+use Rattle.drawing_grammar.specs.Sketch.{Meaning, GroupMeaning, front, behind, choice_value, group_value}
+use Rattle.drawing_grammar.specs.Absent.{absent_value, absent_group}
 use Rattle.drawing_grammar.specs.Written.{weight, counted, limit}
 use Rattle.drawing_grammar.specs.Machine.{choice, Refused, given, verdict, refusal, Moves, Fails}
 use Rattle.drawing_reader.specs.Reader.{tokens_at, ahead, at}

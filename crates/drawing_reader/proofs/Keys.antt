@@ -31,7 +31,7 @@ found_by : (d x : Declared) (xs : List Declared) (b : Bool) → eq-value.it d x 
 found_by d x xs true e rest h = (0, omega arith, sym (same_key d x e))
 found_by d x xs false e rest h = later (map key_of xs) (key_of x) (key_of d) (rest h)
 
--- The set has a declaration exactly where its key is among their keys.
+-- The set has a declaration exactly if its key is among their keys.
 pub found_key : (d : Declared) (ds : List Declared) → list_any (eq-value.it d) ds ≡ true → Contains (map key_of ds) (key_of d)
 found_key d [] h = absurd cc
 found_key d (x ∷ xs) h = found_by d x xs (eq-value.it d x) refl (found_key d xs) h

@@ -60,7 +60,7 @@ edition_at t u ts us e vs h = rw (e, h) refl
 
 -- ---- the number of a version
 
--- An i64 is 2 where its bits are.
+-- An i64 is 2 if its bits are.
 is_two : (n : ℤ) → FitsSigned w64 n → of_z w64 n ≡ 2 → n ≡ pos 2
 is_two n fits e = sym (to_z-of_z w64 n fits) ∙ ap (to_z w64) e
 

@@ -23,7 +23,7 @@ Climbs scope last next ds =
     (taken : List Key) → IsLast scope taken last →
     Declares taken (taken ++ keys_of ds) ds × IsLast scope (taken ++ keys_of ds) next
 
--- Where no label of the scope is taken, nothing of these is declared again.
+-- If no label of the scope is taken, nothing of these is declared again.
 abbrev pub AreFresh : ℕ → List Declaration → Type 0
 AreFresh scope ds =
     (taken : List Key) → ((name : List ℕ) → Contains taken (key scope Label name) → ⊥) →

@@ -14,7 +14,7 @@ use Rattle.drawing_grammar.specs.declared.edition.Edition.{Edition}
 use Rattle.drawing_tree.specs.declared.expr.Expr.{Expr}
 use Rattle.drawing_tree.specs.Expression.{expression_of}
 use Rattle.drawing_grammar.specs.declared.terminal.Terminal.TheVariants.{Clock, Drawing, End, Word, Number, Name, Semicolon, Equals, OpenParenthesis, CloseParenthesis, EndOfText}
-use Rattle.drawing_reader.specs.declared.statement.Details.{Details}
+use Rattle.drawing_reader.specs.declared.use_statement.Details.{Details}
 use Rattle.drawing_reader.specs.declared.cursor.Cursor.{Cursor}
 use Rattle.drawing_grammar.specs.Lexeme.{Lexeme, lexeme_of, lexemes, number_of}
 use Rattle.drawing_grammar.specs.Grammar.{Need, mark, item, keyword, part, group, own_sum, bounds, Range, Delay, Parameters, Conns, Outputs, Statements}
@@ -76,7 +76,7 @@ abbrev pub ClockAt : Result NumberPair Stop → Cursor → Cursor → Type 0
 ClockAt (Ok pair) old new = ReadsClock pair old new
 ClockAt (Err s) old new = (rest : List Need) → Fails (ahead old (clock_needs rest)) s
 
--- A net, with its range where one is written.
+-- A net, with its range if one is written.
 abbrev pub net_needs : List Need → List Need
 net_needs rest = item Name ∷ part Range 0 ∷ rest
 

@@ -27,7 +27,7 @@ fn is_behind(last: &[u8], label: &[u8]) -> bool
     }
 }
 
-/// The label of a statement, where it comes after the last one; of a statement without labels the
+/// The label of a statement, if it comes after the last one; of a statement without labels the
 /// last one again. An IF and a FOR have no answer.
 fn climbed<'a>(last: &'a [u8], statement: &'a Stmt) -> Option<&'a [u8]>
     ensures { IfSome result (λ next.

@@ -15,7 +15,7 @@ use scald_base::{RefusalKind, Stop};
 use scald_lex::TokenKind;
 use std::alloc::Global;
 
-/// The number of a token, or the greatest of 32 bits where it is greater.
+/// The number of a token, or the greatest of 32 bits if it is greater.
 fn capped(kind: TokenKind) -> u32
     ensures { result ≡ min (natural (kind_number kind)) (2 ^ 32 - 1) }
 {

@@ -39,7 +39,7 @@ impl<'a> Cursor<'a> {
         Ok(Some(last))
     }
 
-    /// A range, where one stands here.
+    /// A range, if one stands here.
     pub fn range(&mut self, alloc: Global) -> Result<WrittenRange, Stop>
         ensures reads { (rest : List Need) → Gives result (λ x v.
             (written_range_of x, v)) (ahead self.old (part Range 0 ∷ rest)) (ahead self.new rest) }
@@ -56,7 +56,7 @@ impl<'a> Cursor<'a> {
         Ok(Some(range))
     }
 
-    /// A net, with its range where one follows.
+    /// A net, with its range if one follows.
     pub fn net(&mut self, alloc: Global) -> Result<(SignalName, WrittenRange), Stop>
         ensures reads { NetAt result self.old self.new }
         ensures no_longer { length self.new.rest.now ≤ length self.old.rest.now }

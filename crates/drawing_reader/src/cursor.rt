@@ -94,7 +94,7 @@ impl<'a> Cursor<'a> {
         Stop::refused(kind, self.place())
     }
 
-    /// The next token, or `None` where none is left.
+    /// The next token, or `None` if none is left.
     #[inline(always)]
     pub fn peek(&self) -> Option<Token>
         ensures { result ≡ first_token self.now.rest.now }
@@ -105,7 +105,7 @@ impl<'a> Cursor<'a> {
         }
     }
 
-    /// Goes past the next token, where one is left.
+    /// Goes past the next token, if one is left.
     #[inline(always)]
     pub fn advance(&mut self)
         ensures rest { self.new.rest.now ≡ other_tokens self.old.rest.now }
@@ -127,7 +127,7 @@ impl<'a> Cursor<'a> {
         self.look() == terminal
     }
 
-    /// Takes the next token, where one is left.
+    /// Takes the next token, if one is left.
     #[inline(always)]
     pub fn bump(&mut self) -> Token
         ensures shorter { first_terminal (tokens_at self.old) ≢ EndOfText →
@@ -150,7 +150,7 @@ impl<'a> Cursor<'a> {
         token
     }
 
-    /// Takes a token that has to stand here; where the next is another, `Syntax` comes at its
+    /// Takes a token that has to stand here; if the next is another, `Syntax` comes at its
     /// place.
     pub fn mark(&mut self, terminal: Terminal) -> Result<(), Stop>
         requires { terminal ≢ EndOfText }
@@ -243,7 +243,7 @@ impl<'a> Cursor<'a> {
         }
     }
 
-    /// Takes a word that has to be this keyword; where the next token is not, `Syntax` comes at its
+    /// Takes a word that has to be this keyword; if the next token is not, `Syntax` comes at its
     /// place.
     pub fn keyword(&mut self, keyword: Keyword) -> Result<(), Stop>
         ensures reads { (rest : List Need) →

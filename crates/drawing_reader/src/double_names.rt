@@ -1,10 +1,7 @@
 //! Names that a drawing declares twice.
 
 ghost use Rattle.std.specs.Prelude.{◌≡◌, ◌↔◌, ◌++◌, [], ◌∷◌, map, IsTrue, Contains, MatchResult};
-ghost use Rattle.std.specs.List.{list_any};
-ghost use Rattle.std.specs.Str.{bytes_eq};
 ghost use Rattle.drawing_tree.specs.Tree.{assignment_of, formal_of, statements_of, statement_of, if_of, for_of, macro_of};
-ghost use Rattle.drawing_tree.specs.WellFormed.{primitive_names};
 ghost use Rattle.drawing_grammar.specs.DoubleNames.{key, declaration, constants, parameters, formals, labels, statement_labels, head_declared, macros_declared, declared, primitives, Declares, IsStopAt, IsDistinct, IsDoubleStop};
 
 use crate::ascending::are_ascending;
@@ -34,13 +31,6 @@ impl<'a> Model for Declarations<'a> {
     ghost view = { λ d. primitives ++ map key_of d.seen.keys };
 }
 
-/// Whether a primitive has this name.
-fn is_primitive(name: &[u8]) -> bool
-    ensures { result ≡ list_any (bytes_eq name.now) primitive_names }
-{
-    is_kind_name(name)
-}
-
 /// Whether a declaration is one that each drawing has.
 fn is_taken(scope: usize, kind: Kind, name: &[u8]) -> bool
     ensures { IsTrue result ↔ Contains primitives (key scope kind name.now) }
@@ -49,7 +39,7 @@ fn is_taken(scope: usize, kind: Kind, name: &[u8]) -> bool
         return false;
     }
     match kind {
-        Kind::Macro => is_primitive(name),
+        Kind::Macro => is_kind_name(name),
         _ => false,
     }
 }
@@ -63,7 +53,7 @@ impl<'a> Declarations<'a> {
         }
     }
 
-    /// Takes a declaration, or refuses it at its place where it has been declared before.
+    /// Takes a declaration, or refuses it at its place if it has been declared before.
     fn declare(
         &mut self,
         scope: usize,

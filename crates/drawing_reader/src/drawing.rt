@@ -23,9 +23,8 @@ use std::alloc::Global;
 
 /// The drawing of a text, whose tokens these are, or its first refusal: `Syntax` or `TooDeep`,
 /// whichever token comes first; then `BadHeader`; then `BadName` and `EdgesOverlap`, name by name;
-/// then
-/// `DoubleName`. A refusal has the place of one of the tokens. The drawing is well formed, and its
-/// canonical text draws it again, places aside, where that text does not nest too deep.
+/// then `DoubleName`. A refusal has the place of one of the tokens. The drawing is well formed, and
+/// its canonical text draws it again, places aside, if that text does not nest too deep.
 pub fn read_drawing(alloc: Global, text: &[u8], tokens: &PackedList) -> Result<Drawing, Stop>
     requires { AreTokens text.now tokens.now }
     ensures drawn { IfOk result (λ d. Draws (lexemes text.now tokens.now) (drawing_of d)) }

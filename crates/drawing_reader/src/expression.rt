@@ -1,4 +1,4 @@
-//! Reads expressions. Each function is told how many parentheses and minus signs are open.
+//! Reads expressions. Each function gets how many parentheses and minus signs are open.
 
 ghost use Rattle.std.specs.Prelude.{◌≡◌, ◌≢◌, ◌≤◌, ◌<◌, ℕ, suc, List, ◌∷◌, length, IfOk, OnOk, IfErr, IfSome, IfNone, IsFalse, Some, None};
 ghost use Rattle.drawing_tree.specs.Expression.{expression_of};
@@ -60,7 +60,7 @@ fn above(equal: bool) -> Op
 }
 
 impl<'a> Cursor<'a> {
-    /// One more is open, where the limit allows it.
+    /// One more is open, if the limit allows it.
     pub fn deeper(&self, depth: usize) -> Result<usize, Stop>
         ensures ok { IfOk result (λ n. n ≡ suc depth) }
         ensures room { OnOk result (depth < 64) }

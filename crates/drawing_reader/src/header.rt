@@ -63,7 +63,7 @@ fn clock(pair: NumberPair) -> Option<(u16, u16)>
     }
 }
 
-/// The bounds of wires, 0:0 where none are written.
+/// The bounds of wires, 0:0 if none are written.
 fn wire(written: Option<NumberPair>) -> Result<Delay, Refusal>
     ensures { result ≡ judged_pair is_bounds written (Ok (bounds_of written)) }
 {
@@ -79,7 +79,7 @@ fn wire(written: Option<NumberPair>) -> Result<Delay, Refusal>
     })
 }
 
-/// A skew, 0:0 where none is written.
+/// A skew, 0:0 if none is written.
 fn skew(written: Option<NumberPair>) -> Result<(u16, u16), Refusal>
     ensures { result ≡ judged_pair is_skew written (Ok (pair_of written)) }
 {

@@ -19,6 +19,7 @@ mod macros;
 mod reader;
 mod signal;
 mod statement;
+mod use_statement;
 
 // what is judged after the grammar
 mod ascending;

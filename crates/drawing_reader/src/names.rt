@@ -157,8 +157,8 @@ fn judge_token<'a>(
     }
 }
 
-/// Whether each name of a text is one that fits the header, and plain where it is a formal's. At
-/// the first that is not, `BadName` comes where it has not the form of a name, is a formal's and
+/// Whether each name of a text is one that fits the header, and plain if it is a formal's. At
+/// the first that is not, `BadName` comes if it has not the form of a name, is a formal's and
 /// not plain, or has an interval that does not fit; else `EdgesOverlap`.
 pub fn judged_names(
     alloc: Global,

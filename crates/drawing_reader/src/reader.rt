@@ -242,9 +242,8 @@ impl<'a> Cursor<'a> {
     }
 }
 
-/// What the tokens of a text stand for, or the first token that is refused: `Syntax` where no text
-/// goes on with it,
-/// `TooDeep` where it is beyond a limit.
+/// What the tokens of a text stand for, or the first token that is refused: `Syntax` if no text
+/// goes on with it, `TooDeep` if it is beyond a limit.
 pub fn read_sketch(alloc: Global, text: &[u8], tokens: &PackedList) -> Result<Sketch, Stop>
     requires { AreTokens text.now tokens.now }
     ensures found { IfOk result (λ found. Reads (lexemes text.now tokens.now) (sketch_of found)) }

@@ -31,7 +31,7 @@ fn blank(alloc: Global) -> SignalName
     }
 }
 
-/// The name that a text in quotes is of, or a blank where it is of none: it is refused elsewhere.
+/// The name that a text in quotes is of, or a blank if it is of none: it is refused elsewhere.
 pub fn signal(alloc: Global, text: &[u8]) -> Result<SignalName, Stop>
     ensures is { IfOk result (λ name. name ≡ signal_named text.now) }
     ensures memory { IfErr result (λ stop. stop ≡ OutOfMemory) }

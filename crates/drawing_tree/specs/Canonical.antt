@@ -1,5 +1,8 @@
 -- The canonical text of a drawing: one statement a line, each line ended by byte 10. Every tree has
--- one.
+-- one, also one that no text draws: a fall delay without a delay counts as absent, and a negative
+-- number is written with its minus. So contracts over trees need no premise. That the text draws
+-- its tree again has one condition, on the text's own nesting, since a minus under a minus is
+-- written with a parenthesis.
 use Rattle.std.specs.Prelude.{ℕ, Bool, List, [], ◌∷◌, ◌++◌, codes, decimal, Option, Some, None, if◌then◌else◌}
 use Rattle.std.specs.List.{join_by, flat_map}
 use Rattle.scald_base.specs.Time.{Header}
@@ -58,12 +61,12 @@ connection_text c = join_by term_text (codes " & ") c.terms ++ hold_text c.hold
 unfoldable pub bracketed : {A : Type 0} → List ℕ → List ℕ → (A → List ℕ) → List A → List ℕ
 bracketed before behind text items = before ++ listed_text text items ++ behind
 
--- the same where there are some, else nothing
+-- the same if there are some, else nothing
 unfoldable pub bracketed_if_some : {A : Type 0} → List ℕ → List ℕ → (A → List ℕ) → List A → List ℕ
 bracketed_if_some before behind text [] = []
 bracketed_if_some before behind text (item ∷ items) = bracketed before behind text (item ∷ items)
 
--- in parentheses, also where there are none
+-- in parentheses, also if there are none
 abbrev pub inputs_text : {A : Type 0} → (A → List ℕ) → List A → List ℕ
 inputs_text text ins = bracketed (codes " (") (codes ")") text ins
 

@@ -36,12 +36,12 @@ pub data Item : Type 0 where
   One : Item
   Named : SignalName → Option Range → Item
 
--- complemented where a minus stands before it
+-- complemented if a minus stands before it
 pub record Term : Type 0 where
   pub minus : Bool
   pub item : Item
 
--- bits that follow one another; hold where the hazard mark follows them
+-- bits that follow one another; hold if the hazard mark follows them
 pub record Connection : Type 0 where
   pub terms : List Term
   pub hold : Bool
@@ -53,7 +53,7 @@ pub record Assignment : Type 0 where
   pub name : List ℕ
   pub value : Expression
 
--- Where two delays are written, the first is that of rises. Without it a fall delay counts as not
+-- If two delays are written, the first is that of rises. Without it a fall delay counts as not
 -- there.
 pub record UseStatement : Type 0 where
   pub label : List ℕ
@@ -78,7 +78,7 @@ pub record WireStatement : Type 0 where
   pub max : Expression
   pub place : Place
 
--- An IF has its test, the statements after THEN, those after ELSE where ELSE is written, and its
+-- An IF has its test, the statements after THEN, those after ELSE if ELSE is written, and its
 -- place. A FOR has its variable, the first and the last value, its statements, and its place.
 mutual
   pub data Statement : Type 0 where
@@ -124,7 +124,7 @@ pub record Drawing : Type 0 where
 abbrev pub range_of : RangeExpr → Range
 range_of r = record { first = expression_of r.first; last = option_map expression_of r.last }
 
--- a range, where one is written
+-- a range, if one is written
 abbrev pub written_range_of : Option (Box RangeExpr) → Option Range
 written_range_of range = option_map (λ (b : Box RangeExpr). range_of b.value) range
 
@@ -145,7 +145,7 @@ assignment_of a = record { name = a.name; value = expression_of a.value }
 abbrev pub both_of : Expr × Expr → Expression × Expression
 both_of pair = (expression_of pair.0, expression_of pair.1)
 
--- the delay of falls, where one is written
+-- the delay of falls, if one is written
 abbrev pub written_fall_of : Option (Box (Expr × Expr)) → Option (Expression × Expression)
 written_fall_of fall = option_map (λ (b : Box (Expr × Expr)). both_of b.value) fall
 
@@ -203,7 +203,7 @@ for_of = fold-ForStmt Statement Statement Statement statement_layer for_layer if
 abbrev pub statements_of : List Stmt → Statements
 statements_of ss = listed (map statement_of ss)
 
--- what stands after ELSE, where ELSE is written
+-- what stands after ELSE, if ELSE is written
 abbrev pub else_of : Option (Vec Stmt) → Otherwise
 else_of None = no_else
 else_of (Some v) = else_ (statements_of v.items)

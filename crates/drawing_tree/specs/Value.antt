@@ -21,7 +21,7 @@ is_within (negsuc n) = nat_lt n (2 ^ 63)
 abbrev pub within : ℤ → Outcome
 within n = if is_within n then Ok n else Err Overflow
 
--- 1 where it holds, else 0
+-- 1 if it holds, else 0
 abbrev pub truth : Bool → Outcome
 truth holds = if holds then Ok (pos 1) else Ok (pos 0)
 
@@ -46,12 +46,12 @@ applied Le a b = truth (int_le a b)
 applied Gt a b = truth (int_lt b a)
 applied Ge a b = truth (int_le b a)
 
--- the value of a binding, where there is one
+-- the value of a binding, if there is one
 abbrev pub bound : Option Binding → Outcome
 bound None = Err Unknown
 bound (Some binding) = Ok binding.value
 
--- the value of a parameter: where names are distinct, at most one binding has its name
+-- the value of a parameter: if names are distinct, at most one binding has its name
 abbrev pub value_in : List Binding → List ℕ → Outcome
 value_in env name = bound (find (λ binding. bytes_eq binding.name name) env)
 

@@ -11,7 +11,7 @@ pub struct RangeExpr {
     pub last: Option<Expr>,
 }
 
-/// A range, where one is written. Most terms have none, so it has memory of its own.
+/// A range, if one is written. Most terms have none, so it has memory of its own.
 pub type WrittenRange = Option<Box<RangeExpr>>;
 
 /// What a term stands for.
@@ -21,11 +21,11 @@ pub enum Item {
     Zero,
     /// The constant 1.
     One,
-    /// Bits of a net: those of the range, or where none is written those that the name alone means.
+    /// Bits of a net: those of the range, or if none is written those that the name alone means.
     Named(SignalName, WrittenRange),
 }
 
-/// Bits of one net or a constant, complemented where a minus stands before them.
+/// Bits of one net or a constant, complemented if a minus stands before them.
 #[derive(Drop, PartialEq, Eq, Debug)]
 pub struct Term {
     pub minus: bool,

@@ -25,7 +25,7 @@ pub fn add_bounds(out: &mut Bytes, min: &Expr, max: &Expr) -> Result<(), NoMemor
     add_sum(out, max)
 }
 
-/// Puts the last number of a range at the end, where it has one.
+/// Puts the last number of a range at the end, if it has one.
 fn add_last(out: &mut Bytes, last: &Option<Expr>) -> Result<(), NoMemory>
     ensures { OnOk result (out.new ≡ out.old ++ last_text (option_map expression_of last.now)) }
 {
@@ -36,7 +36,7 @@ fn add_last(out: &mut Bytes, last: &Option<Expr>) -> Result<(), NoMemory>
     add_sum(out, last)
 }
 
-/// Puts a range at the end, where there is one.
+/// Puts a range at the end, if there is one.
 pub fn add_range(out: &mut Bytes, range: &WrittenRange) -> Result<(), NoMemory>
     ensures { OnOk result (out.new ≡ out.old ++ range_text (written_range_of range.now)) }
 {

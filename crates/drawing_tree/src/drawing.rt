@@ -5,10 +5,10 @@ use crate::statement::{Assign, Assigns, Stmts};
 use assertion_syntax::SignalName;
 use scald_base::{Bytes, Header, List, Place};
 
-/// The parameters of a macro, with the values that they have where a use gives none.
+/// The parameters of a macro, with the values that they have if a use gives none.
 pub type Defaults = List<Assign>;
 
-/// A formal of a macro: its bits, or where no range is written bit 0.
+/// A formal of a macro: its bits, or if no range is written bit 0.
 #[derive(Drop, PartialEq, Eq, Debug)]
 pub struct Formal {
     pub base: Bytes,

@@ -95,7 +95,7 @@ fn add_ins(alloc: Global, out: &mut Bytes, ins: &[Formal]) -> Result<(), NoMemor
     add_bracketed(alloc, out, b" (", b")", ins)
 }
 
-/// Appends an arrow and the outputs of a macro, where there are some.
+/// Appends an arrow and the outputs of a macro, if there are some.
 #[tactic(auto, using(crate::proofs::Joined::bracketed_if_some_map))]
 fn add_outs(alloc: Global, out: &mut Bytes, outs: &[Formal]) -> Result<(), NoMemory>
     ensures { OnOk result (out.new ≡ out.old ++ outputs_text formal_text (map formal_of outs.now)) }

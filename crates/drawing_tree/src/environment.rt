@@ -9,6 +9,6 @@ pub struct Binding {
     pub value: i64,
 }
 
-/// The values of parameters. Where names are distinct, each has the one value that stands beside
+/// The values of parameters. If names are distinct, each has the one value that stands beside
 /// it.
 pub type Env = List<Binding>;

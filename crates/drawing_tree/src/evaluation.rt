@@ -22,9 +22,9 @@ pub enum ExprFault {
     ZeroDivisor,
 }
 
-/// The value of an expression where its parameters have these values, or the first fault, left
-/// before right: `Unknown` exactly where that is a parameter without a value, `Overflow` where it
-/// is a result that leaves 64 signed bits, and `ZeroDivisor` where it is a divisor 0. Division goes
+/// The value of an expression if its parameters have these values, or the first fault, left
+/// before right: `Unknown` exactly if that is a parameter without a value, `Overflow` if it
+/// is a result that leaves 64 signed bits, and `ZeroDivisor` if it is a divisor 0. Division goes
 /// towards zero, and a comparison gives 1 or 0. It needs no allocation.
 pub fn eval(e: &Expr, env: &Env) -> Result<i64, ExprFault>
     ensures { result ≡ value env.now (expression_of e.now) }

@@ -23,7 +23,7 @@ pub enum Op {
     Ge,
 }
 
-/// An expression. Two are equal where they hold the same, wherever they lie in memory.
+/// An expression. Two are equal if they hold the same, wherever they lie in memory.
 #[derive(Drop, PartialEq, Eq, Debug)]
 pub enum Expr {
     Number(i64),

@@ -121,7 +121,7 @@ pub fn add_condition(out: &mut Bytes, e: &Expr) -> Result<(), NoMemory>
     }
 }
 
-/// Puts an expression at the end, in parentheses where they are asked for.
+/// Puts an expression at the end, in parentheses if they are asked for.
 #[cycle(expression)]
 fn add_enclosed(out: &mut Bytes, e: &Expr, asked: bool) -> Result<(), NoMemory>
     ensures { OnOk result (out.new

@@ -11,7 +11,7 @@ use std::alloc::Global;
 pub trait Printed {
     ghost text: { Self → List ℕ };
 
-    /// Puts its text at the end. Where memory runs out a part of it may be there.
+    /// Puts its text at the end. If memory runs out a part of it may be there.
     fn add_to(&self, alloc: Global, out: &mut Bytes) -> Result<(), NoMemory>
         ensures { OnOk result (out.new ≡ out.old ++ text self.now) };
 }
@@ -52,7 +52,7 @@ pub fn add_bracketed<T: Printed>(
     out.extend(behind)
 }
 
-/// The same where there are some, else nothing.
+/// The same if there are some, else nothing.
 #[tactic(auto, unfolding(crate::specs::Canonical::bracketed_if_some))]
 pub fn add_bracketed_if_some<T: Printed>(
     alloc: Global,

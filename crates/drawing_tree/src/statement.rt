@@ -20,9 +20,9 @@ pub type Assigns = List<Assign>;
 pub struct UseStmt {
     pub label: Bytes,
     pub kind: Bytes,
-    /// The least and the greatest delay, in ticks; where `fall` is there, those of rises alone.
+    /// The least and the greatest delay, in ticks; if `fall` is there, those of rises alone.
     pub delay: Option<(Expr, Expr)>,
-    /// The least and the greatest delay of falls, in ticks, where two delays are written. Without a
+    /// The least and the greatest delay of falls, in ticks, if two delays are written. Without a
     /// `delay`, which no text draws, it counts as not there.
     pub fall: Option<Box<(Expr, Expr)>>,
     pub params: Assigns,
@@ -44,7 +44,7 @@ pub struct WireStmt {
 /// Statements.
 pub type Stmts = Vec<Stmt>;
 
-/// Statements for a test that is not 0, and where ELSE is written those for one that is, with the
+/// Statements for a test that is not 0, and if ELSE is written those for one that is, with the
 /// place of the word IF.
 #[cycle(stmt)]
 #[derive(Drop, PartialEq, Eq, Debug)]

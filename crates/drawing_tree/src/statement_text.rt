@@ -25,7 +25,7 @@ impl Printed for Assign {
     }
 }
 
-/// Puts parameters in their braces at the end, where there are some.
+/// Puts parameters in their braces at the end, if there are some.
 #[tactic(auto, using(crate::proofs::Joined::bracketed_if_some_map))]
 pub fn add_params(alloc: Global, out: &mut Bytes, params: &[Assign]) -> Result<(), NoMemory>
     ensures { OnOk result (out.new ≡ out.old ++ params_text (map assignment_of params.now)) }
@@ -42,7 +42,7 @@ fn add_more_bounds(out: &mut Bytes, bounds: &(Expr, Expr)) -> Result<(), NoMemor
     add_bounds(out, &bounds.0, &bounds.1)
 }
 
-/// Puts a comma and the delay of falls at the end, where there is one.
+/// Puts a comma and the delay of falls at the end, if there is one.
 fn add_fall(out: &mut Bytes, fall: &Option<Box<(Expr, Expr)>>) -> Result<(), NoMemory>
     ensures { OnOk result (out.new ≡ out.old ++ fall_text (written_fall_of fall.now)) }
 {
@@ -52,7 +52,7 @@ fn add_fall(out: &mut Bytes, fall: &Option<Box<(Expr, Expr)>>) -> Result<(), NoM
     }
 }
 
-/// Puts the delay, or the delays, of a use in brackets at the end, where there is one.
+/// Puts the delay, or the delays, of a use in brackets at the end, if there is one.
 fn add_delay(
     out: &mut Bytes,
     delay: &Option<(Expr, Expr)>,
@@ -80,7 +80,7 @@ fn add_ins(alloc: Global, out: &mut Bytes, ins: &[Conn]) -> Result<(), NoMemory>
     add_bracketed(alloc, out, b" (", b")", ins)
 }
 
-/// Appends an arrow and the outputs of a use, where there are some.
+/// Appends an arrow and the outputs of a use, if there are some.
 #[tactic(auto, using(crate::proofs::Joined::bracketed_if_some_map))]
 fn add_outs(alloc: Global, out: &mut Bytes, outs: &[Conn]) -> Result<(), NoMemory>
     ensures { OnOk result (out.new

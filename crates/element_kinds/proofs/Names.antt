@@ -1,4 +1,4 @@
--- There is a kind of a name exactly where one of the names is it.
+-- There is a kind of a name exactly if one of the names is it.
 use Rattle.std.proofs.Common.{◌≡◌, ℕ, Bool, true, false, ◌||◌, cond, List, [], ◌∷◌, map, refl, Option, Some, is_some}
 use Rattle.std.specs.List.{find, list_any}
 use Rattle.std.specs.Str.{bytes_eq}

@@ -63,11 +63,11 @@ nth_signal signals i = slice_index_or signals i (λ t. false)
 abbrev pub rises_at : Signal → ℕ → Bool
 rises_at x t = not (x (t - 1)) && x t
 
--- a register: the input where the clock rises, else the output as it was
+-- a register: the input if the clock rises, else the output as it was
 abbrev pub registered : List Signal → ℕ → Bool → Bool
 registered signals s old = if rises_at (nth_signal signals 0) s then nth_signal signals 1 s else old
 
--- a latch: the input where it is enabled, else the output as it was
+-- a latch: the input if it is enabled, else the output as it was
 abbrev pub latched : List Signal → ℕ → Bool → Bool
 latched signals s old = if nth_signal signals 0 s then nth_signal signals 1 s else old
 
@@ -119,7 +119,7 @@ Equation kind bounds delay signals output t =
 
 -- ---- the ticks that it names
 
--- how many ticks before t each pin's net is looked at, where all pins are looked at the delay
+-- how many ticks before t each pin's net is looked at, if all pins are looked at the delay
 -- before
 abbrev pub pins_before : ℕ → List ℕ → List ℕ
 pins_before delay wires = map (λ wire. delay + wire) wires
@@ -143,7 +143,7 @@ named_by (Checker check) bounds delay wires = pins_before delay wires
 abbrev pub named_before : Kind → Bounds → ℕ → List ℕ → List ℕ
 named_before kind bounds delay wires = named_by (form_of kind) bounds delay wires
 
--- An equation is asked only where every tick that it names is 0 or later: nothing is said of the
+-- An equation is asked only if every tick that it names is 0 or later: nothing is said of the
 -- start.
 abbrev pub IsAsked : Kind → Bounds → ℕ → List ℕ → ℕ → Type 0
 IsAsked kind bounds delay wires t = All (λ back. back ≤ t) (named_before kind bounds delay wires)

@@ -13,7 +13,7 @@ use Rattle.element_kinds.specs.declared.form.Form.TheVariants.{Gate, Change, Reg
 
 -- A kind's name in a drawing, what makes its output, the fewest and the most input connections of
 -- a use, and the bit at which a pin settles the output whatever the others show. One pin may be
--- marked exactly where there is such a bit.
+-- marked exactly if there is such a bit.
 pub record KindRow : Type 0 where
   pub name : List ℕ
   pub form : Form

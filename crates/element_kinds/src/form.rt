@@ -37,10 +37,10 @@ pub enum Form {
     Gate,
     /// May change after any of its pins did, each time by another delay.
     Change,
-    /// Takes its input, pin 1, where its clock, pin 0, rises; and, where this says so, is set by
+    /// Takes its input, pin 1, when its clock, pin 0, rises; and, if this says so, is set by
     /// pin 2 and reset by pin 3.
     Register(bool),
-    /// Passes its input, pin 1, on while pin 0 enables it; and, where this says so, is set by pin 2
+    /// Passes its input, pin 1, on while pin 0 enables it; and, if this says so, is set by pin 2
     /// and reset by pin 3.
     Latch(bool),
     /// No output.

@@ -149,7 +149,7 @@ impl Kind {
     }
 
     /// Whether its output changes with the pin at this place, from 0: a register's input counts
-    /// only where its clock rises.
+    /// only when its clock rises.
     pub fn listens(self, place: usize) -> bool
         ensures { result ≡ listens self place }
     {
@@ -175,7 +175,7 @@ impl Kind {
         self.form().may_vary()
     }
 
-    /// What it checks, where it is a checker.
+    /// What it checks, if it is a checker.
     pub fn check(self) -> Option<Check>
         ensures { result ≡ check_of self }
     {

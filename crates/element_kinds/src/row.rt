@@ -61,8 +61,8 @@ impl Row {
         self.inputs
     }
 
-    /// The bit at which a pin settles the output whatever the others show, where one pin may be
-    /// marked `!H`; no pin may be marked where there is none.
+    /// The bit at which a pin settles the output whatever the others show, if one pin may be
+    /// marked `!H`; no pin may be marked if there is none.
     pub fn closes(&self) -> Option<bool>
         ensures { result ≡ self.now.closes }
     {

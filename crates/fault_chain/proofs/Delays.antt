@@ -39,7 +39,7 @@ use Rattle.fault_chain.specs.Laws.{AreTwoDelays, HasDelays}
 
 -- ---- what is judged
 
--- a value of which this holds, where there is one
+-- a value of which this holds, if there is one
 abbrev IsOkWith : {A : Type 0} → (A → Type 0) → Judged A → Type 0
 IsOkWith Q (Ok a) = Q a
 IsOkWith Q (Err kind) = ⊤
@@ -364,7 +364,7 @@ module _ (d : Drawing) (c : Circuit) (header : IsHeader d.header) (is : IsCircui
   pub has_header : IsHeader c.header
   has_header = subst IsHeader (sym is.stands.header) timed.0
 
-  -- Where the header is one, the delays of the drawing's circuit are.
+  -- If the header is one, the delays of the drawing's circuit are.
   pub has_delays : HasDelays c
   has_delays =
       let wires : AllByRecursion IsDelay (map (λ (n : Net). n.wire) c.nets) = subst (AllByRecursion IsDelay) (sym is.stands.wires) timed.1 in

@@ -73,7 +73,7 @@ last_is link [] last is = cc
 last_is link (one ∷ []) last is = absurd (cc)
 last_is link (one ∷ two ∷ before) last is = absurd (cc)
 
--- a net that does not change is no last link where nothing drives it
+-- a net that does not change is no last link if nothing drives it
 no_steady : IsWhole circuit (Width 0 true 3 2) (record { links = steady ∷ []; end = Undriven }) → ⊥
 no_steady whole =
     let same : steady ≡ whole.last = last_is steady whole.before whole.last whole.links in

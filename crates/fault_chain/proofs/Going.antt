@@ -54,7 +54,7 @@ met_more nets left net seen met exists new =
       count = omega (arith, count);
     }
 
--- Where all of them were met, each net was.
+-- If all of them were met, each net was.
 all_met : (nets net : ℕ) (seen : List ℕ) → AreMet nets seen 0 → net < nets → list_any (λ i. i == net) seen ≡ true
 all_met nets net seen met exists = by (list_any (λ i. i == net) seen) refl
   where
@@ -116,7 +116,7 @@ going_more c seen link rest moves going = record {
 
 module _ (c : Circuit) (ws : Waves) (known : IsCircuit c) (some : 0 < period c.header) (delays : HasDelays c) (long : AreLong c ws)
     (settles : (i : ℕ) → ws i ≡ evaluated c ws i) where
-  -- Where no pin of the driver changes, it is storage with set and reset.
+  -- If no pin of the driver changes, it is storage with set and reset.
   forced : (link : Link) (j : Instance) → IsLink c ws link → driver c link.net ≡ Some j → next_link c ws j link.slot ≡ None → IsForced c link
   forced link j is at none =
       elim (element_quiet c ws some long delays.wires j link.slot (driver_fits c link.net j known at) (driver_makes c link.net j known at)
@@ -131,7 +131,7 @@ module _ (c : Circuit) (ws : Waves) (known : IsCircuit c) (some : 0 < period c.h
             absurd (cc)
       ]
 
-  -- one link more, where each chain from the next link goes on
+  -- one link more, if each chain from the next link goes on
   goes_from : (left : ℕ) (seen : List ℕ) (link : Link) → AreMet (length c.nets) seen (suc left) → IsLink c ws link →
       ((next : Link) → AreMet (length c.nets) (link.net ∷ seen) left → IsLink c ws next → IsGoing c (link.net ∷ seen) (chain_from c ws left (link.net ∷ seen) next)) →
       IsGoing c seen (chain_from c ws (suc left) seen link)

@@ -27,7 +27,7 @@ use Rattle.fault_chain.specs.Chain.{first_back, link_back, mover_back, through, 
 
 -- ---- slots
 
--- the first that there is, where none is before it
+-- the first that there is, if none is before it
 pub first_from : {A : Type 0} (f : ℕ → Option A) (n i j : ℕ) (x : A) → ((k : ℕ) → i ≤ k → k < j → f k ≡ None) → i ≤ j → j < i + n → f j ≡ Some x →
     first_some f n i ≡ Some x
 first_from f zero i j x none after within is = absurd (omega (arith, after, within))

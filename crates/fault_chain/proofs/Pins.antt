@@ -1,4 +1,4 @@
--- Where no change of a pin's net shows, the wave at the pin is quiet.
+-- If no change of a pin's net shows, the wave at the pin is quiet.
 use Rattle.std.proofs.Common.{◌≡◌, ℕ, zero, suc, ◌+◌, ◌-◌, ◌<◌, ◌≤◌, Bool, true, false, cond, if◌then◌else◌, All, List, [], ◌∷◌, length, map, get_or, refl, sym, ap, subst, ◌∙◌, arith, Option, Some, None}
 use Rattle.std.specs.Option.{option_or}
 use Rattle.std.proofs.lemmas.List.{get_or-map, length-map}
@@ -71,7 +71,7 @@ pub normal_quiet : (w : Wave Value) (p : ℕ) → 0 < length w.cells → IsQuiet
 normal_quiet w p some quiet =
     quiet_normal w p some (λ o least most. quiet_window w no_delay p (omega arith) (quiet_here w p quiet) o least (omega (arith, most)))
 
--- the cell of a slot, where its fold is
+-- the cell of a slot, if its fold is
 pub cell_quiet : (w : Wave Value) (p : ℕ) → IsQuietAt p w → is_quiet (earlier values w.cells p 0) ≡ true
 cell_quiet w p quiet = quiet_window w no_delay p (omega arith) (quiet_here w p quiet) 0 (omega arith) (omega arith)
 

@@ -34,7 +34,7 @@ link_back c ws i p o =
       value = fold values (ws i) (back (period c.header) p o);
     }
 
--- that, where it may change there
+-- that, if it may change there
 abbrev pub mover_back : Circuit → Waves → ℕ → ℕ → ℕ → Option Link
 mover_back c ws i p o =
     if is_quiet (link_back c ws i p o).value then None else Some (link_back c ws i p o)
@@ -72,13 +72,13 @@ linked link rest = record { links = link ∷ rest.links; end = rest.end }
 abbrev pub ending : Link → End → Chain
 ending link end = record { links = link ∷ []; end = end }
 
--- A link, and what follows where something drives its net, and a pin of that changes.
+-- A link, and what follows if something drives its net, and a pin of that changes.
 abbrev pub chain_after : Link → Option (Option Chain) → Chain
 chain_after link None = ending link Undriven
 chain_after link (Some None) = ending link Both
 chain_after link (Some (Some rest)) = linked link rest
 
--- From a link on, where these nets stand in earlier links and at most so many nets do not. Where
+-- From a link on, if these nets stand in earlier links and at most so many nets do not. If
 -- none is left the link's net is one of them.
 abbrev pub chain_from : Circuit → Waves → ℕ → List ℕ → Link → Chain
 chain_from c ws zero seen link = ending link Repeat

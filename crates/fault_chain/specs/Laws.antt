@@ -87,7 +87,7 @@ ChainsAreWhole =
     IsHeader c.header →
     HasDelays c → IsBase c limit base before → IsSettled c limit base case → AreWhole c case
 
--- A circuit that a text draws is such a circuit: where its base and its cases have settled, all of
+-- A circuit that a text draws is such a circuit: if its base and its cases have settled, all of
 -- their chains are whole.
 abbrev pub DrawnChainsAreWhole : Type 0
 DrawnChainsAreWhole =

@@ -104,7 +104,7 @@ fn forget(met: &mut NetSet, links: &[Link])
 }
 
 /// The chain of a fault in these waves. `met`, which has a place for each net, is empty before and
-/// after; `NoMemory` comes where memory runs out, and `met` is of no use then.
+/// after; `NoMemory` comes if memory runs out, and `met` is of no use then.
 pub fn chain_of<W: CyclicWave<Item = Value>>(
     alloc: Global,
     c: &Circuit,

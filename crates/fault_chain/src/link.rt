@@ -134,7 +134,7 @@ pub fn next_link<W: CyclicWave<Item = Value>>(
     None
 }
 
-/// The change that shows in a slot of a pin of an instance; `None` where there is no such pin too.
+/// The change that shows in a slot of a pin of an instance; `None` if there is no such pin too.
 pub fn link_at_pin<W: CyclicWave<Item = Value>>(
     c: &Circuit,
     waves: &Waves<W>,
@@ -156,7 +156,7 @@ pub fn link_at_pin<W: CyclicWave<Item = Value>>(
     }
 }
 
-/// What a net does in a slot, whether it may change there or not; `None` where there is no such
+/// What a net does in a slot, whether it may change there or not; `None` if there is no such
 /// net.
 pub fn link_at_net<W: CyclicWave<Item = Value>>(
     c: &Circuit,

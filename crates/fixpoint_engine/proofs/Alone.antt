@@ -1,4 +1,4 @@
--- Where there are no classes, each net is one of its own: it stands for itself alone, and all nets that are due are evaluated.
+-- If there are no classes, each net is one of its own: it stands for itself alone, and all nets that are due are evaluated.
 use Rattle.std.proofs.Common.{◌≡◌, ℕ, zero, suc, ◌+◌, ◌<◌, ◌≤◌, ◌==◌, inl, inr, Bool, true, false, not, ◌&&◌, cond, All, List, [], ◌∷◌, ◌++◌, length, map, refl, sym, ap, ◌∙◌, arith, zero-add, count_by, Option, Some, None, is_some}
 use Rattle.std.specs.List.{range_with_len}
 use Rattle.std.specs.Prelude.{IfSome}

@@ -29,7 +29,7 @@ module _ {K : Type 0} (shown : K → Wave Value) where
   distinct (k ∷ ks) d (suc i) zero w at at' = absurd (none_after k ks i d.0 (at ∙ sym at'))
   distinct (k ∷ ks) d (suc i) (suc j) w at at' = ap suc (distinct ks d.1 i j w at at')
 
-  -- where a key is put in, the waves grow
+  -- if a key is put in, the waves grow
   pub grows : (eq : K → K → Bool) (ks new : List K) (k : K) → new ≡ insert_key eq ks k → Grows (map shown ks) (map shown new)
   grows eq ks new k put = by (list_any (eq k) ks) refl
     where

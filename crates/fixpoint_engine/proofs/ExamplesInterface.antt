@@ -118,7 +118,7 @@ of_no_tick = table refl refl
 without_nets : Inputs (circuit [] []) 4 ([] ∷ ("0101" ∷ []) ∷ []) []
 without_nets = table refl refl
 
--- where all nets are driven, anything goes
+-- if all nets are driven, anything goes
 all_driven : Inputs (circuit (net clock (bounds 0 0) (Some 0) ∷ []) []) 4 (("1010" ∷ []) ∷ []) []
 all_driven = table refl refl
 

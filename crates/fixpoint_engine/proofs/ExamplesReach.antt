@@ -142,6 +142,6 @@ not_one_that_stays u = u.first.differs refl
 not_with_more : IsUnsettled (7 ∷ 5 ∷ 5 ∷ 3 ∷ []) wave_in 2 1 → ⊥
 not_with_more u = u.never 2 (omega arith) (λ i. refl)
 
--- a place past the order names no net, where net 0 differs too
+-- a place past the order names no net, if net 0 differs too
 past_the_order : IsUnsettled (7 ∷ []) (changing 0) 1 1 → ⊥
 past_the_order u = let below : 1 < 1 = u.first.below in omega (arith, below)

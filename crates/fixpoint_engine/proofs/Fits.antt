@@ -1,4 +1,4 @@
--- The waves at pins have the circuit's period where those of the nets do, and are in normal form.
+-- The waves at pins have the circuit's period if those of the nets do, and are in normal form.
 use Rattle.std.proofs.Common.{◌≡◌, ℕ, ◌+◌, ◌-◌, ◌<◌, Bool, true, false, cond, List, [], ◌∷◌, length, map, refl, sym, subst, ◌∙◌, arith, All, zero, suc}
 use Rattle.std.proofs.lemmas.List.{length-map}
 use Rattle.std.proofs.lemmas.List.Elements.{All-head, All-tail}

@@ -1,4 +1,4 @@
--- Where nothing that an instance listens to has changed, its value has not changed.
+-- If nothing that an instance listens to has changed, its value has not changed.
 use Rattle.std.proofs.Common.{◌≡◌, ℕ, ◌+◌, Bool, true, false, ◌&&◌, cond, List, [], ◌∷◌, map, refl, sym, ap, ◌∙◌, Option, Some, None}
 use Rattle.std.proofs.lemmas.Bool.{not-false, or_parts}
 use Rattle.scald_base.specs.Time.{Header, Bounds}
@@ -46,7 +46,7 @@ listening_same c ws vs kind place (p ∷ ps) unheard =
     by true same rest = λ i. pin_same c ws vs p same i ∷ rest i
     by false same rest = rest
 
--- where every pin listens
+-- if every pin listens
 pub listening_all : (kind : Kind) → ((place : ℕ) → listens kind place ≡ true) → (place : ℕ) (waves : List (Wave Value)) → listening_from kind place waves ≡ waves
 listening_all kind all place [] = refl
 listening_all kind all place (w ∷ ws) = rw (all place) (ap (λ (rest : List (Wave Value)). w ∷ rest) (listening_all kind all (place + 1) ws))

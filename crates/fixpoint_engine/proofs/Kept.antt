@@ -150,7 +150,7 @@ module _ (c : Circuit) (active : ℕ → Bool) (ks : List ℕ) (start : Waves) (
         ∙ and_assoc (is_first ks i) (is_due c active (round c active start) (suc r) i) (moves c (round c active start r) i)
         ∙ ap (λ (b : Bool). is_first ks i && b) (changes_is c active start r i)
 
-    -- a class has a net that changes where its nets differ
+    -- a class has a net that changes if its nets differ
     class_changes : IsQueue q → (i : ℕ) → i < length c.nets → is_with ks (nets_in (changes_of c (waves_of waves) q.nets)) i ≡ differs (round c active start r) (round c active start (suc r)) i
     class_changes queue i below = both_ways _ _ to from
       where

@@ -34,6 +34,6 @@ made_by_key c table ws j k is =
     position_marks (λ (p : KeyPin). p.hold) (λ (p : Pin). p.hold) k.pins j.pins is.marks in
     λ i. normal values (turned_wave (is.inverted i) (made_by (is.kind i) (shown i) (marked i) (is.delay i) (is.split i)))
 
--- one number for each net, where there is one wave
+-- one number for each net, if there is one wave
 pub each_number : (c : Circuit) (table : List (Wave Value)) (ns : List ℕ) → FitWaves c (waves_at table ns) → length ns ≡ length c.nets
 each_number c table ns fit = sym (length-map ns (wave_at table)) ∙ fit.each_net

@@ -161,7 +161,7 @@ drives_is (Some (Constant one)) i drives = cc
 is_drives : (out : Option Target) (i : ℕ) → out ≡ Some (OnNet i) → drives_in out i ≡ true
 is_drives out i is = ap (λ (o : Option Target). drives_in o i) is ∙ eq-eqb i i refl
 
--- The driver of a net is listed, where it listens.
+-- The driver of a net is listed, if it listens.
 driver_listed : (c : Circuit) (net i k : ℕ) (found : Option Instance) → slice_get c.instances k ≡ found → hears_in (λ j. net == j) found ≡ true → out_of found ≡ Some (OnNet i) →
     list_any (λ k. drives_in (out_at c.instances k) i) (readers_of c.instances net) ≡ true
 driver_listed c net i k None at heard out = cc

@@ -84,7 +84,7 @@ length_made kind waves marked d split fits mark = length_late kind waves marked 
 
 -- ---- the kinds
 
--- where one delay counts
+-- if one delay counts
 kind_sound : (kind : Kind) (waves : List (Wave Value)) (marked : Option ℕ) (d : Bounds) (split : Option Split) → has_output kind ≡ true → two_delays kind split ≡ None →
     (pin_counts kind).0 ≤ length waves → length waves ≤ (pin_counts kind).1 → MarkFits kind marked (length waves) → 0 < period_of waves → AllFit values (period_of waves) waves →
     IsSound kind d waves (made_by kind waves marked d split)

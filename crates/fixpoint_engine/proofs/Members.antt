@@ -156,7 +156,7 @@ among_members ks class (suc m) i below is = by (class_of ks m == class) refl (λ
     by true e rest = at (m == i) refl rest
     by false e rest = let apart : m ≡ i → ⊥ = λ same. eqb-false (class_of ks m) class e (ap (class_of ks) same ∙ is) in rest (omega (arith, apart, below))
 
--- the net is of the class, where it is a net
+-- the net is of the class, if it is a net
 member_tests : (ks : List ℕ) (class i : ℕ) → i < length ks → among (members_below ks class (length ks)) i ≡ (class == class_of ks i)
 member_tests ks class i below = both_ways (among (members_below ks class (length ks)) i) (class == class_of ks i) to from
   where

@@ -1,4 +1,4 @@
--- Where the waves permit the nets of a run, those at pins permit the pins, a wire's delay later.
+-- If the waves permit the nets of a run, those at pins permit the pins, a wire's delay later.
 use Rattle.std.proofs.Common.{◌≡◌, ℕ, ◌+◌, ◌-◌, ◌<◌, ◌≤◌, List, length, refl, ap, subst, arith, slice_get, Option, Some, None}
 use Rattle.scald_base.specs.Time.{period}
 use Rattle.scald_base.specs.Signal.{Signal, turned}

@@ -26,7 +26,7 @@ placed nets order net named below =
     Contains-permutation (range_with_len 0 (length (net_names nets))) order net named.each
     (net, omega (arith, long, numbers), get_or-range_with_len 0 (length (net_names nets)) net net (omega (arith, long)) ∙ omega arith)
 
--- Where there is a net, the order has one.
+-- If there is a net, the order has one.
 pub some_named : (nets : List Net) (order some : List ℕ) (set : ℕ → Bool) → IsNameOrder (net_names nets) order → All (λ net. net < length nets) some → 0 < length some →
     ((i : ℕ) → set i ≡ among some i) → ((k : ℕ) → k < length order → set (net_at order k) ≡ false) → ⊥
 some_named nets order [] set named exist any are none = omega arith

@@ -178,7 +178,7 @@ among_at (net ∷ nets) (suc k) below = or_right (net == get_or nets k 0) (among
 pub among_more : (nets : List ℕ) (k i : ℕ) → k < length nets → among (take (k + 1) nets) i ≡ (among (take k nets) i || (get_or nets k 0 == i))
 among_more nets k i below = ap (λ (ns : List ℕ). among ns i) (take_more nets k 0 below) ∙ one_more (take k nets) (get_or nets k 0) i
 
--- one net more of a row waits, where it is active
+-- one net more of a row waits, if it is active
 pub adds_one_more : (row : List ℕ) (k i net : ℕ) (active old before after : Bool) → k < length row → net ≡ get_or row k 0 →
     before ≡ (old || (active && among (take k row) i)) → after ≡ (before || (active && (net == i))) → after ≡ (old || (active && among (take (k + 1) row) i))
 adds_one_more row k i net active old before after below is was adds =

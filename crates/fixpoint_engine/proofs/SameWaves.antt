@@ -1,4 +1,4 @@
--- A pin shows the same where what it is on has one wave.
+-- A pin shows the same if what it is on has one wave.
 use Rattle.std.proofs.Common.{◌≡◌, All, List, [], ◌∷◌, map, refl}
 use Rattle.std.proofs.lemmas.List.Elements.{All-head, All-tail}
 use Rattle.scald_base.specs.Time.{Header}

@@ -1,4 +1,4 @@
--- Where no net is reached from itself through listening pins, rounds settle by as many rounds as there are outputs:
+-- If no net is reached from itself through listening pins, rounds settle by as many rounds as there are outputs:
 -- a net that changes in a round hears one that changed in the round before, and so on back to the first; these are all
 -- different nets, each the output of an instance of its own.
 use Rattle.std.proofs.Common.{◌≡◌, ℕ, zero, suc, ◌+◌, ◌≤◌, ◌==◌, Bool, true, false, not, ◌&&◌, ◌||◌, cond, List, [], ◌∷◌, ◌++◌, length, length-append, refl, sym, ap, subst, ◌∙◌, arith, inl, inr, ◌⊎◌, All, Option, Some, None, is_some, nat_eq}

@@ -1,4 +1,4 @@
--- Rounds are sound: where waves permit a run from some tick on, those of the next round permit it `reach` ticks later.
+-- Rounds are sound: if waves permit a run from some tick on, those of the next round permit it `reach` ticks later.
 use Rattle.std.proofs.Common.{◌≡◌, ℕ, zero, suc, ◌+◌, ◌-◌, ◌*◌, ◌<◌, ◌≤◌, Bool, true, false, List, [], ◌∷◌, length, map, refl, sym, ap, subst, ◌∙◌, arith, All, slice_get, Option, Some, None}
 use Rattle.std.proofs.lemmas.Bool.{cond_both}
 use Rattle.std.proofs.lemmas.List.Elements.{All-head, All-tail}
@@ -82,7 +82,7 @@ obeys_fewer : (n m : ℕ) (j : Instance) (choice : Choice) (signals : List Signa
     Obeys n j.kind j.delay (two_delays j.kind j.split) choice signals output → Obeys m j.kind j.delay (two_delays j.kind j.split) choice signals output
 obeys_fewer n m j choice signals output fewer obeys = λ t tm is_asked. obeys t (omega (arith, fewer, tm)) is_asked
 
--- Where the waves permit the first n ticks of a run, what an instance makes permits as many ticks of its
+-- If the waves permit the first n ticks of a run, what an instance makes permits as many ticks of its
 -- output more as its least delay is, as far as the run goes.
 instance_permits : (c : Circuit) (run : Run) (ws : Waves) (j : Instance) (i : ℕ) (choice : Choice) (n m v u : ℕ) →
     0 < period c.header → AreLong c ws → InstanceFits c.header (length c.nets) j → PermitFront c run n ws v → 1 ≤ v → m ≤ n + j.delay.min → m ≤ run.ticks →
@@ -149,7 +149,7 @@ driver_permits c run n ws i v (Some k) is some known isrun inside fit permits v1
         instance_permits c run ws j i choice.0 n n v (v + reach c) some fit (fits_of c k j known at) permits v1 (omega arith) inside
         (isrun.at k j choice.0 at choice.1) makes out (omega (arith, far, own))
 
--- Where the waves permit the first n ticks of a run, those of the next round permit a driven net's ticks
+-- If the waves permit the first n ticks of a run, those of the next round permit a driven net's ticks
 -- past them too, as many as its driver's least delay.
 pub driver_permits_ahead : (c : Circuit) (run : Run) (ws : Waves) (i k : ℕ) (j : Instance) (n m v : ℕ) →
     0 < period c.header → IsCircuit c → IsRun c run → AreLong c ws → driver_at c.nets i ≡ Some k → slice_get c.instances k ≡ Some j →

@@ -38,7 +38,7 @@ next_item xs i d below =
     let next : i + 1 ≡ suc i = omega arith in
     ap (λ n. take n xs) next ∙ take-suc xs i d below
 
--- Numbers are equal where their waves are.
+-- Numbers are equal if their waves are.
 pub one_number : (table : List (Wave Value)) (a b : ℕ) → AreDistinct table → a < length table → b < length table → wave_at table a ≡ wave_at table b → a ≡ b
 one_number table a b distinct below below' e =
     distinct a b (wave_at table a)

@@ -43,7 +43,7 @@ first_or_later : (net : ℕ) (nets : List ℕ) (i : ℕ) → Contains (net ∷ n
 first_or_later net nets i (zero, below, is) = inl is
 first_or_later net nets i (suc k, below, is) = inr (k, omega arith, is)
 
--- No more are marked than a list has, where it has each that is marked.
+-- No more are marked than a list has, if it has each that is marked.
 most_marked : (nets : List ℕ) (marks : List Bool) → ((i : ℕ) → marked_in marks i ≡ true → Contains nets i) → count_by (λ b. b) marks ≤ length nets
 most_marked [] marks all = let none = none_marked marks (λ i marked. let at = all i marked in absurd (omega arith)) in omega (arith, none)
 most_marked (net ∷ nets) marks all = by (most_marked nets) (marked_in marks net) refl

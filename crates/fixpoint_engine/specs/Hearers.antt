@@ -21,7 +21,7 @@ abbrev pub hears_class : Circuit → List ℕ → ℕ → ℕ → Bool
 hears_class c classes class i =
     leads_in (Some classes) i && hears_in (λ j. class == class_of classes j) (driver c i)
 
--- Where a net stands for its class, its row has the nets that hear the class.
+-- If a net stands for its class, its row has the nets that hear the class.
 pub record AreHearers (c : Circuit) (classes : List ℕ) (rows : List (List ℕ)) : Type 0 where
   pub each_net : length rows ≡ length classes
   pub are : (net i : ℕ) → leads_in (Some classes) net ≡ true →

@@ -1,4 +1,4 @@
--- Loops through listening pins. Where there is none, rounds settle within as many rounds as there
+-- Loops through listening pins. If there is none, rounds settle within as many rounds as there
 -- are outputs.
 use Rattle.std.specs.Prelude.{◌≡◌, ℕ, ◌==◌, true}
 use Rattle.flat_circuit.specs.Circuit.{Circuit, driver}

@@ -60,7 +60,7 @@ pub record AreMembers (classes : List ℕ) (before : List (Option ℕ))
   pub firsts_are : AreFirsts classes firsts (length classes)
   pub lasts_are : AreLasts classes lasts (length classes)
 
--- ---- where classes may be left out: each net is then a class of its own
+-- ---- if classes may be left out: each net is then a class of its own
 
 -- the class of each net
 abbrev pub numbers_in : ℕ → Option (List ℕ) → List ℕ
@@ -85,7 +85,7 @@ for_all (Some classes) changes = for_classes classes changes
 abbrev pub is_with : List ℕ → List ℕ → ℕ → Bool
 is_with classes nets i = list_any (λ net. class_of classes net == class_of classes i) nets
 
--- The net changes, where each of these stands for its class, or for itself where there are none.
+-- The net changes, if each of these stands for its class, or for itself if there are none.
 abbrev pub is_with_any : Option (List ℕ) → List ℕ → ℕ → Bool
 is_with_any None nets = among nets
 is_with_any (Some classes) nets = is_with classes nets

@@ -6,7 +6,7 @@ use Rattle.flat_circuit.specs.Stable.{IsStable}
 use Rattle.fixpoint_engine.specs.declared.net_classes.NetClasses.{NetClasses}
 use Rattle.fixpoint_engine.specs.Hearers.{AreHearers}
 
--- Where there are classes, each net has one, and nothing tells the nets of one class apart, in no
+-- If there are classes, each net has one, and nothing tells the nets of one class apart, in no
 -- case either; and it is known what hears each.
 pub record AreClasses (c : Circuit) (cases : List (List CaseValue))
     (classes : NetClasses) : Type 0 where

@@ -9,7 +9,7 @@ use Rattle.flat_circuit.specs.Circuit.{Circuit, driver}
 use Rattle.fixpoint_engine.specs.Waves.{Waves}
 use Rattle.fixpoint_engine.specs.Value.{instance_wave}
 
--- what an instance makes; where there is none, the wave stays as it was
+-- what an instance makes; if there is none, the wave stays as it was
 abbrev pub wave_from : Circuit → Waves → Option Instance → Wave Value → Wave Value
 wave_from c ws None old = old
 wave_from c ws (Some j) old = instance_wave c ws j

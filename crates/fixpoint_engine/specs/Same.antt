@@ -1,4 +1,4 @@
--- When two waves are one: a test, which tells just equal waves.
+-- When two waves are one: a test, which holds of equal waves alone.
 use Rattle.std.specs.Prelude.{◌≡◌, Bool, true, ◌&&◌, ◌==◌, List}
 use Rattle.std.proofs.Common.{ap, sym, ◌∙◌}
 use Rattle.std.specs.Bool.{Decides}

@@ -1,5 +1,5 @@
 -- Where the rounds of a circuit begin, which nets are active then, and how many rounds are tried
--- where nothing is asked.
+-- if nothing is asked.
 use Rattle.std.specs.Prelude.{ℕ, ◌+◌, ◌*◌, Bool, [], is_some, slice_get, Option, Some, None}
 use Rattle.scald_base.specs.Time.{Header, period}
 use Rattle.step_values.specs.declared.value.Value.{Value}
@@ -29,7 +29,7 @@ base_start c i = start_in c.header (slice_get c.nets i)
 abbrev pub is_driven : Circuit → ℕ → Bool
 is_driven c i = is_some (driver_at c.nets i)
 
--- The most rounds where none are asked: one for each instance with an output, and more by the
+-- The most rounds if none are asked: one for each instance with an output, and more by the
 -- period, since what holds round a loop may pass through every slot.
 abbrev pub default_limit : Circuit → ℕ
 default_limit c = outputs c.instances + 4 * period c.header + 16

@@ -35,7 +35,7 @@ made_in (Checker check) kind waves marked d split = gate_wave kind waves marked 
 abbrev pub made_by : Kind → List (Wave Value) → Option ℕ → Bounds → Option Split → Wave Value
 made_by kind waves marked d split = by_form (λ form. made_in form kind waves marked d split) kind
 
--- the complement, where an output is marked so
+-- the complement, if an output is marked so
 abbrev pub turned_wave : Bool → Wave Value → Wave Value
 turned_wave inverted w = if inverted then flipped values w else w
 

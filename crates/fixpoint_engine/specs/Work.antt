@@ -30,7 +30,7 @@ abbrev pub hears_in : (ℕ → Bool) → Option Instance → Bool
 hears_in nets None = false
 hears_in nets (Some j) = hears_from nets j.kind 0 j.pins
 
--- A net is due in round 1 where it is active, and in a later round where it is active and its
+-- A net is due in round 1 if it is active, and in a later round if it is active and its
 -- driver listens to a net whose waves differ in the two rounds before.
 unfoldable pub is_due : Circuit → (ℕ → Bool) → (ℕ → Waves) → ℕ → ℕ → Bool
 is_due c active rounds zero i = false

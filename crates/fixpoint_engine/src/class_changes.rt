@@ -1,4 +1,4 @@
-//! The changes of one round, where one net of each class stands for all.
+//! The changes of one round, if one net of each class stands for all.
 
 ghost use Rattle.std.specs.Prelude.{◌≡◌, ◌<◌, ◌++◌, ℕ, IfOk, IfSome, OnOk, List, Some, length, map, true};
 ghost use Rattle.std.specs.List.{All};

@@ -103,7 +103,7 @@ impl ClassNets {
 }
 
 /// Whether a net is evaluated in the rounds in which it is due: it is active and the first of its
-/// class. Where there are no classes, each net is one of its own.
+/// class. If there are no classes, each net is one of its own.
 pub fn is_evaluated(active: &NetSet, classes: Option<&ClassNets>, net: u32) -> bool
     ensures { result ≡ is_evaluated active.now (option_copied classes.entry) net }
 {

@@ -7,7 +7,7 @@ ghost use Rattle.skew_algebra.specs.Wave.{Wave};
 use std::hash::Hash;
 
 /// A key of an evaluation: it reads some waves, by their numbers, and makes one of them. The key
-/// and those waves alone tell which.
+/// and those waves alone decide which.
 pub trait Evaluated: Eq + Hash + Drop {
     /// The numbers of the waves that it reads, in their order.
     ghost reads: { Self → List ℕ };

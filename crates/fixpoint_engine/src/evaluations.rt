@@ -90,7 +90,7 @@ impl<W: CyclicWave<Item = Value>, K: Evaluated> Evaluations<W, K> {
         Ok(number)
     }
 
-    /// The number of what a key makes, where it was evaluated before.
+    /// The number of what a key makes, if it was evaluated before.
     pub fn find(&self, key: &K) -> Option<u32>
         ensures { IfSome result (IsNumber self.now (value_of K.reads K.makes self.now key.now)) }
     {
@@ -170,7 +170,7 @@ impl<W: CyclicWave<Item = Value>, K: Evaluated> Evaluations<W, K> {
     }
 
     /// The numbers of the waves that another table has by these numbers, each of which is copied
-    /// where it is not here.
+    /// if it is not here.
     fn take_in(
         &mut self,
         alloc: Global,
@@ -194,7 +194,7 @@ impl<W: CyclicWave<Item = Value>, K: Evaluated> Evaluations<W, K> {
 
     /// Forgets all evaluations, and of the waves all but the first so many, whose numbers stay as
     /// they are, and those of these numbers, which get new ones: the answer has them in the same
-    /// order. Where memory runs out the first waves are still there.
+    /// order. If memory runs out the first waves are still there.
     pub fn compact(
         &mut self,
         alloc: Global,

@@ -47,7 +47,7 @@ fn empty_rows(alloc: Global, count: u32) -> Result<Vec<Row>, NoMemory>
     Ok(rows)
 }
 
-/// The net that stands for the class of what a pin is on, where the pin is on a net and its kind
+/// The net that stands for the class of what a pin is on, if the pin is on a net and its kind
 /// listens to it.
 fn heard(classes: &ClassNets, kind: Kind, place: usize, target: Target) -> Option<u32>
     requires { TargetExists (length classes.now) target }
@@ -142,7 +142,7 @@ fn add_net(rows: &mut Vec<Row>, c: &Circuit, classes: &ClassNets, net: u32) -> R
 }
 
 impl Hearers {
-    /// No rows, where there are no classes.
+    /// No rows, if there are no classes.
     pub fn none(alloc: Global) -> Hearers {
         Hearers {
             rows: Vec::new(alloc),

@@ -204,7 +204,7 @@ fn key_pins(
     Ok(keys)
 }
 
-/// What the output of an instance depends on, where the nets have the waves of these numbers.
+/// What the output of an instance depends on, if the nets have the waves of these numbers.
 pub fn key_of<W: CyclicWave<Item = Value>>(
     alloc: Global,
     c: &Circuit,

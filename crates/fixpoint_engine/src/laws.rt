@@ -2,7 +2,7 @@
 
 ghost use Rattle.fixpoint_engine.specs.Laws.{StableClassesGoTogether};
 
-/// Where the nets of a stable class begin with one wave, and are all active or all not, they have
+/// If the nets of a stable class begin with one wave, and are all active or all not, they have
 /// one wave in every round, and are due in the same rounds.
 pub fn stable_classes_go_together()
     ensures { StableClassesGoTogether }

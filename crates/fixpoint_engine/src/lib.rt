@@ -2,7 +2,7 @@
 //! drivers make of the waves of the round before, until nothing changes.
 //!
 //! The layer above calls [`settle`], which answers the settled waves, or the net that still changes
-//! at the limit, or [`settle_classes`], which answers the same where one net of each class may
+//! at the limit, or [`settle_classes`], which answers the same if one net of each class may
 //! stand for all. `specs/Value` says what an instance makes of all waves, `specs/Rounds` what a
 //! round is and when rounds settle, and `specs/Settled` which runs the waves permit. Checks read
 //! what pins show by [`waves_at_pins`] (`specs/Waves`, `specs/Pins`).

@@ -9,7 +9,7 @@ use flat_circuit::{CaseList, Circuit, classes, stable};
 use scald_base::NoMemory;
 use std::alloc::Global;
 
-/// The classes of a circuit's nets, of each of which one net is evaluated; or none, where something
+/// The classes of a circuit's nets, of each of which one net is evaluated; or none, if something
 /// tells the nets of a class apart, and each net is evaluated by itself.
 #[derive(Drop)]
 pub struct NetClasses {
@@ -20,7 +20,7 @@ pub struct NetClasses {
 }
 
 impl NetClasses {
-    /// The classes of a circuit and its cases. `NoMemory` comes where memory runs out.
+    /// The classes of a circuit and its cases. `NoMemory` comes if memory runs out.
     pub fn of(alloc: Global, c: &Circuit, cases: &CaseList) -> Result<NetClasses, NoMemory>
         ensures { IfOk result (AreClasses c.now cases.now) }
     {

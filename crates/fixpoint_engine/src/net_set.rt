@@ -7,7 +7,7 @@ use scald_base::NoMemory;
 use std::alloc::Global;
 use std::marker::Model;
 
-/// A set of nets, by their numbers. Contracts see a mark for each net, which is set where the net
+/// A set of nets, by their numbers. Contracts see a mark for each net, which is set if the net
 /// is in the set.
 #[derive(Drop)]
 pub struct NetSet {

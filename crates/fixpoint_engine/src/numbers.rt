@@ -13,7 +13,7 @@ use wave_core::CyclicWave;
 /// The number of the wave of each net, by the net's number.
 pub type Numbers = List<u32>;
 
-/// The numbers of these waves, each of which is copied where the table does not have it.
+/// The numbers of these waves, each of which is copied if the table does not have it.
 pub fn numbers_of<W: CyclicWave<Item = Value>>(
     alloc: Global,
     table: &mut WaveTable<W>,
@@ -32,7 +32,7 @@ pub fn numbers_of<W: CyclicWave<Item = Value>>(
 }
 
 /// The numbers that another table gives to the waves of these numbers, each of which is copied
-/// where it does not have it.
+/// if it does not have it.
 pub fn renumbered<W: CyclicWave<Item = Value>>(
     alloc: Global,
     table: &WaveTable<W>,

@@ -224,7 +224,7 @@ impl Queue {
     }
 
     /// In place of those that wait: the active nets whose drivers listen to a net that changes with
-    /// these, of each class the first. Where there are classes, each of these nets stands for all
+    /// these, of each class the first. If there are classes, each of these nets stands for all
     /// of its own.
     pub fn refill_all(
         &mut self,

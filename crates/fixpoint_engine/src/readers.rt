@@ -17,7 +17,7 @@ pub fn readers_of(c: &Circuit, net: u32) -> &[u32]
     }
 }
 
-/// The net that an instance drives; `None` where it has no output, or there is no such instance.
+/// The net that an instance drives; `None` if it has no output, or there is no such instance.
 pub fn output_of(c: &Circuit, instance: u32) -> Option<u32>
     ensures { result ≡ output_net (out_at c.now.instances instance) }
 {

@@ -109,7 +109,7 @@ pub fn unsettled(
 }
 
 /// The numbers of the same waves, of which the store forgets those that no net has, and all
-/// evaluations, where much came in: else rounds that come to ever new waves would take memory
+/// evaluations, if much came in: else rounds that come to ever new waves would take memory
 /// without end. The first waves are kept.
 fn shortened<W: CyclicWave<Item = Value>>(
     alloc: Global,
@@ -131,12 +131,12 @@ fn shortened<W: CyclicWave<Item = Value>>(
 /// Rounds over the active nets, from the waves at the start, until a round is as the one before:
 /// the waves of the first round that the next one equals. The start waves permit a run from some
 /// tick on; the settled waves permit it `reach` ticks a round later. `Unsettled` comes exactly
-/// where no round up to `limit` is as the next one. In the first round each active net is
+/// if no round up to `limit` is as the next one. In the first round each active net is
 /// evaluated, and later those alone whose driver listens to a net that changed in the round before;
 /// `evals` counts them. Waves are given and answered by their numbers in the store, which has what
 /// is made of them remembered.
 ///
-/// Where there are classes, whose nets have one wave in every round and are due in the same rounds,
+/// If there are classes, whose nets have one wave in every round and are due in the same rounds,
 /// one net of each class is evaluated, and the number of its wave is given to all; `evals` counts
 /// the classes that have nets which are due in a round.
 pub fn settle<W: CyclicWave<Item = Value>>(

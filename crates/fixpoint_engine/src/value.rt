@@ -92,8 +92,8 @@ fn instance_wave<W: CyclicWave<Item = Value>>(
     }
 }
 
-/// The number of what an instance makes, where the nets have the waves of these numbers. It is made
-/// only where it was not before. A copy of the wave is kept, since a copy takes no more room than
+/// The number of what an instance makes, if the nets have the waves of these numbers. It is made
+/// only if it was not before. A copy of the wave is kept, since a copy takes no more room than
 /// it needs.
 fn number_made<W: CyclicWave<Item = Value>>(
     alloc: Global,
@@ -123,7 +123,7 @@ fn number_made<W: CyclicWave<Item = Value>>(
     store.remember(key, words, wave)
 }
 
-/// The number of a net's value: of what its driver makes, or of the wave that it has where nothing
+/// The number of a net's value: of what its driver makes, or of the wave that it has if nothing
 /// drives it.
 pub fn evaluated<W: CyclicWave<Item = Value>>(
     alloc: Global,

@@ -1,4 +1,4 @@
--- Runs of one change function: its output may step only where some pin has stepped from its
+-- Runs of one change function: its output may step only if some pin has stepped from its
 -- greatest to its least delay before, and need not step then.
 use Rattle.std.proofs.Common.{true, false, List, [], ◌∷◌, map, refl}
 use Prim.Native.String.{String}

@@ -98,7 +98,7 @@ rise_fall_delays = runs refl
 pulse_delays : AreRuns (checker_with_delay MinPulse) (delayed MinPulse any_delay)
 pulse_delays = runs refl
 
--- where there is one delay, a rise and a fall delay are any
+-- if there is one delay, a rise and a fall delay are any
 one_delay_counts : AreRuns (with_delay Buf)
     (zeros (record (late 2 (0 ∷ [])) { rise = 9; fall = 4096 } ∷ []))
 one_delay_counts = runs refl

@@ -137,7 +137,7 @@ nets_long nets names e = sym (length-map nets net_name) ∙ ap length e
 
 -- ---- the end
 
--- where the drivers stand, no output is taken
+-- if the drivers stand, no output is taken
 pub none_taken : (js : List Instance) (n : ℕ) (ds : List (Option ℕ)) → DrivenTo js n (length js) ds → HoldsOfNone (IsTaken js) js
 none_taken js n ds dr = λ k l x. not_taken js n (length js) ds dr k l x
 

@@ -78,7 +78,7 @@ an_element = (refl, (λ (fits : LimitsFit eight_ticks And (Edges 0 0)). absurd (
 ones : (setup_of (Edges 3 5) ≡ 3) × (hold_of (Edges 3 5) ≡ 5) × (high_of (Pulses 3 5) ≡ 3) × (low_of (Pulses 3 5) ≡ 5)
 ones = (refl, refl, refl, refl)
 
--- a limit of the other sort counts for none, nor is there one where nothing is checked
+-- a limit of the other sort counts for none, nor is there one if nothing is checked
 no_others : (map setup_of (Pulses 3 5 ∷ Unlimited ∷ []) ≡ 0 ∷ 0 ∷ [])
     × (map hold_of (Pulses 3 5 ∷ Unlimited ∷ []) ≡ 0 ∷ 0 ∷ [])
     × (map high_of (Edges 3 5 ∷ Unlimited ∷ []) ≡ 0 ∷ 0 ∷ [])

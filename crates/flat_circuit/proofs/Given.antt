@@ -1,4 +1,4 @@
--- A net that is there is given again, where nothing is asserted of it.
+-- A net that is there is given again, if nothing is asserted of it.
 use Rattle.std.proofs.Common.{◌≡◌, ℕ, Bool, true, false, cond, ◌&&◌, List, refl, sym, ap, ◌∙◌}
 use Rattle.std.specs.Prelude.{not, ◌++◌, ◌∷◌, []}
 use Rattle.scald_base.specs.declared.assertion.AssertSpec.{AssertSpec}

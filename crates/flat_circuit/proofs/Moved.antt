@@ -1,4 +1,4 @@
--- An equation at a tick follows from the same equation so many ticks later in other signals, where
+-- An equation at a tick follows from the same equation so many ticks later in other signals, if
 -- both show the same bits at the ticks that it names. Parts of runs, and runs with another bit, are
 -- other signals of that kind.
 use Rattle.std.proofs.Common.{◌≡◌, ℕ, zero, suc, ◌+◌, ◌-◌, ◌≤◌, Bool, true, false, not, ◌&&◌, if◌then◌else◌, List, [], ◌∷◌, refl, sym, ap, subst, ◌∙◌, arith, All}
@@ -137,7 +137,7 @@ still_moves m t max (w ∷ ws) (x ∷ xs) (y ∷ ys) u same named least most sti
 
 -- ---- equations
 
--- The output at the tick, and where the equation looks back also at the tick before, is that of the
+-- The output at the tick, and if the equation looks back also at the tick before, is that of the
 -- other signals.
 pub record OutputMoves (kind : Kind) (m t : ℕ) (x y : Signal) : Type 0 where
   pub now : y t ≡ x (m + t)

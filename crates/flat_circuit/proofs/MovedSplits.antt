@@ -24,7 +24,7 @@ named_less t before most (w ∷ ws) less named =
     All-cons (λ (b : ℕ). b ≤ t) (before + w) (pins_before before ws) (omega arith)
     (named_less t before most ws less (named_tail t most w ws named))
 
--- It is the same at each tick from `most` ticks before on, where those are named.
+-- It is the same at each tick from `most` ticks before on, if those are named.
 own_bit_moves : (kind : Kind) (m t most : ℕ) (ws : List ℕ) (xs ys : List Signal) →
     Match m t ws xs ys → Named t most ws → (u : ℕ) → t ≤ u + most → u ≤ t →
     gate_signal kind ys u ≡ gate_signal kind xs (m + u)

@@ -26,7 +26,7 @@ feeders_from (x ∷ xs) f first (suc n) made past zero k at =
     let same : first ≡ k = omega arith in subst (λ v. x.feeders.items ≡ f v) same head
 feeders_from (x ∷ xs) f first (suc n) made past (suc j) k at = feeders_from xs f (first + 1) n (cc) (λ i l. past i (omega arith)) j k (omega arith)
 
--- the feeders of each node, where a number past the last node has none
+-- the feeders of each node, if a number past the last node has none
 pub feeders_are : (nodes : List Node) (f : ℕ → List ℕ) (n : ℕ) → map node_feeders nodes ≡ map f (range_with_len 0 n) →
     ((j : ℕ) → n ≤ j → f j ≡ []) → (k : ℕ) → feeders_of nodes k ≡ f k
 feeders_are nodes f n made past k = feeders_from nodes f 0 n made (λ j l. past j (omega (arith, l))) k k (omega arith)

@@ -33,7 +33,7 @@ stay_set start marks k m n h s i f =
     elim (written marks k m i h) as (λ _. mark_at (set marks k m) i ≢ Fresh)
     [ Here e w ↦ (λ x. n (sym w ∙ x)) | Elsewhere o w ↦ (λ x. s i f (sym w ∙ x)) ]
 
--- a clear mark stays so where what is written is clear, or the place was not clear
+-- a clear mark stays so if what is written is clear, or the place was not clear
 clear_stays : (marks : List Mark) (k : ℕ) (m : Mark) (i : ℕ) → k < length marks → (m ≡ Clear) ⊎ (mark_at marks k ≢ Clear) → mark_at marks i ≡ Clear → mark_at (set marks k m) i ≡ Clear
 clear_stays marks k m i h o c =
     elim (written marks k m i h) as (λ _. mark_at (set marks k m) i ≡ Clear) [
@@ -41,7 +41,7 @@ clear_stays marks k m i h o c =
       | Elsewhere n w ↦ w ∙ c
     ]
 
--- an open mark stays so where something else is written
+-- an open mark stays so if something else is written
 open_stays : (marks : List Mark) (k : ℕ) (m : Mark) (i : ℕ) → i ≢ k → mark_at marks i ≡ Open → mark_at (set marks k m) i ≡ Open
 open_stays marks k m i n c = get_or-set_other marks k i m Fresh n ∙ c
 

@@ -179,7 +179,7 @@ none {c = c} {table = table} h =
 
 -- ---- a run, and below its waveforms which bits of a net it fixes
 
--- From a tick on: where the mark is 1 there is no run with the other bit, and where it is 0 there
+-- From a tick on: if the mark is 1 there is no run with the other bit, and if it is 0 there
 -- is one.
 abbrev pub FixedFrom : Circuit → Run → ℕ → ℕ → List Bool → Type 0
 FixedFrom c r net t [] = ⊤

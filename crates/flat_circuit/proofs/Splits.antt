@@ -218,7 +218,7 @@ came_zero z rise fall t inside inside' h =
 never : (bit b : Bool) → b ≡ not bit → b ≡ bit → ⊥
 never bit b h h' = grind arith
 
--- where the delay to it is the longer one, z was at the bit at both ends
+-- if the delay to it is the longer one, z was at the bit at both ends
 pub came_both : (bit : Bool) (z : Signal) (t own other : ℕ) → other ≤ own → Came bit z t own other → (z (t - own) ≡ bit) × (z (t - other) ≡ bit)
 came_both bit z t own other longer (Throughout a all) = (all own a (omega arith), all other (omega arith) a)
 came_both bit z t own other longer (Somewhere a j low high here) =

@@ -65,7 +65,7 @@ complemented_register : Fixes
     "111000" ∷ [])) 0 "111111"
 complemented_register = fixes refl
 
--- ---- latches: the input where the enable is 1
+-- ---- latches: the input if the enable is 1
 
 latch : Fixes (storage Latch) (run (late 0 (0 ∷ 0 ∷ []) ∷ []) (
     "111011" ∷
@@ -73,7 +73,7 @@ latch : Fixes (storage Latch) (run (late 0 (0 ∷ 0 ∷ []) ∷ []) (
     "010010" ∷ [])) 0 "111111"
 latch = fixes refl
 
--- nothing is asked at tick 0, where the enable is 1 and the input is another bit
+-- nothing is asked at tick 0, if the enable is 1 and the input is another bit
 latch_begins_anyhow : Fixes (storage Latch) (run (late 0 (0 ∷ 0 ∷ []) ∷ []) (
     "1001" ∷
     "1101" ∷

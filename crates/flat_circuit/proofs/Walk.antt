@@ -63,7 +63,7 @@ stay_set start marks k m n h s i f =
     elim (written marks k m i h) as (λ _. mark_at (set marks k m) i ≢ Fresh)
     [ Here e w ↦ (λ x. n (sym w ∙ x)) | Elsewhere o w ↦ (λ x. s i f (sym w ∙ x)) ]
 
--- a mark that is clear stays so where what is written is clear, or the place was not clear
+-- a mark that is clear stays so if what is written is clear, or the place was not clear
 clear_stays : (marks : List Mark) (k : ℕ) (m : Mark) (i : ℕ) → k < length marks →
     (m ≡ Clear) ⊎ (mark_at marks k ≢ Clear) →
     mark_at marks i ≡ Clear → mark_at (set marks k m) i ≡ Clear

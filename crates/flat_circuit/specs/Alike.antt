@@ -1,4 +1,4 @@
--- What two nets have in common that nothing tells apart, where each net has a class: all that is
+-- What two nets have in common that nothing tells apart, if each net has a class: all that is
 -- said of them, and drivers that differ at most in which nets of their classes the pins are on.
 use Rattle.std.specs.Prelude.{◌≡◌, ℕ, ◌==◌, Bool, if◌then◌else◌, List, [], ◌∷◌, slice_get, slice_index_or, Option, Some, None, ⊤}
 use Rattle.std.specs.List.{All, AllZip}

@@ -122,7 +122,7 @@ pub record GivesNet (old new : Built) (name : Name) (spec : AssertSpec) (i : ℕ
   pub after : new ≡ after_net old name spec
   pub number : IsNumber new.names name i
 
--- A clash comes first; then a net is one too many where it is new.
+-- A clash comes first; then a net is one too many if it is new.
 abbrev pub IsNetFault : Built → Name → AssertSpec → RefusalKind → Type 0
 IsNetFault b name spec AssertionClash = Clashes b.asserted name.text spec
 IsNetFault b name spec TooMany =
@@ -172,7 +172,7 @@ IsInstanceRefusal b j (Refused r) =
 abbrev pub bounds_at : List Bounds → ℕ → Bounds
 bounds_at wires i = slice_index_or wires i (record { min = 0; max = 0 })
 
--- The circuit that a builder gives, where no output is taken and no instance is reached from a loop
+-- The circuit that a builder gives, if no output is taken and no instance is reached from a loop
 -- without delay: its nets with the bounds that were set last and the assertion of their text, and
 -- its instances as they were given.
 pub record Stands (b : Built) (c : Circuit) : Type 0 where

@@ -30,7 +30,7 @@ pub record InstanceExists (nets : ℕ) (j : Instance) : Type 0 where
   pub drives : OutExists nets j.out
 
 -- Its nets exist, its pins, its limits and its two delays are those of its kind, and it has an
--- output exactly where its kind has one.
+-- output exactly if its kind has one.
 pub record InstanceFits (h : Header) (nets : ℕ) (j : Instance) : Type 0 where
   pub pins : PinsFit j.kind j.pins
   pub has_out : is_some j.out ≡ has_output j.kind

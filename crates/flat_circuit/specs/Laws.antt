@@ -47,7 +47,7 @@ looks_back_by (Checker check) = false
 abbrev pub looks_back : Kind → Bool
 looks_back kind = looks_back_by (form_of kind)
 
--- No pin of this instance is on the net, unless it is a checker; and where the instance drives the
+-- No pin of this instance is on the net, unless it is a checker; and if the instance drives the
 -- net, its equation is asked at no tick that names the net's bit at this one.
 pub record LeavesFree (run : Run) (net t : ℕ) (i : Instance) (choice : Choice) : Type 0 where
   pub unread : has_output i.kind ≡ true → All (λ (p : Pin). p.target ≢ OnNet net) i.pins

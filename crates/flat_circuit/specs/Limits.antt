@@ -1,4 +1,4 @@
--- The limits of a checker, one by one. Each is 0 where there is none of its sort.
+-- The limits of a checker, one by one. Each is 0 if there is none of its sort.
 use Rattle.std.specs.Prelude.{ℕ}
 use Rattle.flat_circuit.specs.declared.limits.Limits.{Limits}
 use Rattle.flat_circuit.specs.declared.limits.Limits.TheVariants.{None as Unlimited, Edges, Pulses}

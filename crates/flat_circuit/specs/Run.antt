@@ -16,7 +16,7 @@ use Rattle.flat_circuit.specs.Circuit.{Circuit}
 use Rattle.element_kinds.specs.Equation.{Equation, IsAsked}
 use Rattle.flat_circuit.specs.Split.{two_delays, SplitEquation, IsSplitAsked}
 
--- What a run chooses at an instance: its delay, or where it has two its rise and its fall delay,
+-- What a run chooses at an instance: its delay, or if it has two its rise and its fall delay,
 -- and the delay of the wire to each of its pins.
 pub record Choice : Type 0 where
   pub delay : ℕ
@@ -47,7 +47,7 @@ pin_signals run [] wires = []
 pin_signals run (p ∷ ps) [] = []
 pin_signals run (p ∷ ps) (w ∷ ws) = pin_signal run p w ∷ pin_signals run ps ws
 
--- the output of an instance, complemented back where it is marked; a checker has none
+-- the output of an instance, complemented back if it is marked; a checker has none
 abbrev pub out_signal : Run → Option Target → Bool → Signal
 out_signal run None inverted t = false
 out_signal run (Some target) inverted t = turned inverted (target_signal run target 0 t)

@@ -32,9 +32,9 @@ gate_signal kind signals u = gate_bit kind (bits_at signals u)
 abbrev pub ticks : ℕ → ℕ → List ℕ
 ticks first last = range_with_len first (last + 1 - first)
 
--- Where the rise takes at least as long, the output is 1 exactly where z was 1 on all ticks from
--- the rise delay before to the fall delay before, so a shorter pulse is swallowed. Where the fall
--- takes longer, it is 1 exactly where z was 1 on some tick from the fall delay before to the rise
+-- If the rise takes at least as long, the output is 1 exactly if z was 1 on all ticks from
+-- the rise delay before to the fall delay before, so a shorter pulse is swallowed. If the fall
+-- takes longer, it is 1 exactly if z was 1 on some tick from the fall delay before to the rise
 -- delay before.
 abbrev pub split_bit : Signal → ℕ → ℕ → ℕ → Bool
 split_bit z rise fall t =
@@ -51,7 +51,7 @@ SplitEquation kind rise fall signals output t =
 abbrev pub split_named_before : ℕ → ℕ → List ℕ → List ℕ
 split_named_before rise fall wires = pins_before (max rise fall) wires
 
--- as every equation, it is asked only where every tick that it names is 0 or later
+-- as every equation, it is asked only if every tick that it names is 0 or later
 abbrev pub IsSplitAsked : ℕ → ℕ → List ℕ → ℕ → Type 0
 IsSplitAsked rise fall wires t = All (λ back. back ≤ t) (split_named_before rise fall wires)
 

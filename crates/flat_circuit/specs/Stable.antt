@@ -6,7 +6,7 @@ use Rattle.flat_circuit.specs.declared.net.Net.{Net}
 use Rattle.flat_circuit.specs.Circuit.{Circuit}
 use Rattle.flat_circuit.specs.Alike.{class_of, value_in, NetsAlike}
 
--- the nets of two numbers are alike, where there are such nets
+-- the nets of two numbers are alike, if there are such nets
 abbrev pub AreAlikeAt : Circuit → List (List CaseValue) → List ℕ → ℕ → ℕ → Type 0
 AreAlikeAt c cases classes i j =
     (m n : Net) → slice_get c.nets i ≡ Some m → slice_get c.nets j ≡ Some n →

@@ -46,7 +46,7 @@ StopsAtTaken js (Refused r) = (r.kind ≡ TwoDrivers) × IsFirst (IsTaken js) js
 
 -- ---- what passes on at once
 
--- the driver of what a pin is on, where it passes on without delay
+-- the driver of what a pin is on, if it passes on without delay
 abbrev pub if_at_once : List Instance → Option ℕ → Option ℕ
 if_at_once js None = None
 if_at_once js (Some d) = if least_delay_at js d == 0 then Some d else None
@@ -100,7 +100,7 @@ pins_noted kind i k place (p ∷ ps) row =
     pins_noted kind i k (place + 1) ps
     (if listens kind place && is_on i p.target then row_noted row k else row)
 
--- the same, where the instance has an output
+-- the same, if the instance has an output
 abbrev pub noted_by : Instance → ℕ → ℕ → Row → Row
 noted_by j i k row = if is_some j.out then pins_noted j.kind i k 0 j.pins row else row
 
@@ -141,7 +141,7 @@ pub record AreRuled (names : List Name) (ws : List Bounds) (specs : List AssertS
   pub none_looped : HoldsOfNone (IsLooped (bounds_at ws) js) js
   pub are : AreNets names ws specs drivers nets
 
--- at the first output that is taken, or where none is at the first instance that a loop reaches
+-- at the first output that is taken, or if none is, at the first instance that a loop reaches
 abbrev pub StopsAtRule : List Bounds → List Instance → Stop → Type 0
 StopsAtRule ws js stop =
     StopsAtTaken js stop ⊎ (HoldsOfNone (IsTaken js) js × StopsAtLoop ws js stop)

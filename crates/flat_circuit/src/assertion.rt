@@ -24,7 +24,7 @@ impl Model for Assertion {
 }
 
 impl Assertion {
-    /// This assertion. It needs no allocation where nothing is asserted.
+    /// This assertion. It needs no allocation if nothing is asserted.
     pub fn of(alloc: Global, spec: AssertSpec) -> Result<Assertion, NoMemory>
         ensures { IfOk result (λ made. made ≡ spec) }
     {
@@ -35,7 +35,7 @@ impl Assertion {
         Ok(Assertion { spec })
     }
 
-    /// What is asserted; where that is nothing, the nothing that is given.
+    /// What is asserted; if that is nothing, the nothing that is given.
     pub fn or<'a>(&'a self, nothing: &'a AssertSpec) -> &'a AssertSpec
         requires { nothing.now ≡ Unasserted }
         ensures { result.now ≡ self.now }

@@ -52,7 +52,7 @@ impl Assertions {
         }
     }
 
-    /// Asserts it of the text, where it is an assertion and the text has none.
+    /// Asserts it of the text, if it is an assertion and the text has none.
     pub(crate) fn add(
         &mut self,
         alloc: Global,

@@ -76,9 +76,9 @@ impl Builder {
 
     /// The number of the net with this path, base and bit, which a new one gets now. A path is
     /// empty or ends with a slash; a global has an empty path, and its base begins with a slash.
-    /// The assertion is one of all bits of this path and base. `AssertionClash` comes exactly where
-    /// an assertion of them that was given before differs, and else `TooMany` exactly where the net
-    /// is new and 65,536 are there. After a refusal, or where memory runs out, the builder is as
+    /// The assertion is one of all bits of this path and base. `AssertionClash` comes exactly if
+    /// an assertion of them that was given before differs, and else `TooMany` exactly if the net
+    /// is new and 65,536 are there. After a refusal, or if memory runs out, the builder is as
     /// before.
     pub fn net(
         &mut self,
@@ -103,7 +103,7 @@ impl Builder {
         Ok(number)
     }
 
-    /// The number after the last one that was given, where it is that of a net with this path, base
+    /// The number after the last one that was given, if it is that of a net with this path, base
     /// and bit, of which nothing is asserted here. No name is put together to find it.
     fn next_found(&self, path: &[u8], base: &[u8], bit: u16, spec: &AssertSpec) -> Option<u32>
         ensures { let name : Name = record { text = path.now ++ base.now; bit = bit } in
@@ -200,7 +200,7 @@ impl Builder {
         Ok(number as u32)
     }
 
-    /// Sets the bounds of a net's wires, which are the header's where none are set; those that are
+    /// Sets the bounds of a net's wires, which are the header's if none are set; those that are
     /// set last count.
     pub fn wire(&mut self, net: u32, wire: Delay)
         requires { net < length self.old.names }
@@ -209,9 +209,9 @@ impl Builder {
         self.nets.set_wire(net as usize, wire);
     }
 
-    /// Adds an instance, and says its number. `TooMany` comes exactly where it would be the
+    /// Adds an instance, and says its number. `TooMany` comes exactly if it would be the
     /// 65,537th with an output, or the 65,537th checker, or there would be more than 1,048,576
-    /// pins; its place is the instance's. After a refusal, or where memory runs out, the builder is
+    /// pins; its place is the instance's. After a refusal, or if memory runs out, the builder is
     /// as before, and the instance is dropped.
     pub fn instance(&mut self, instance: Instance) -> Result<u32, Stop>
         requires { InstanceFits self.old.header (length self.old.names) instance }

@@ -35,7 +35,7 @@ fn said(byte: u8) -> Option<bool>
     }
 }
 
-/// Says the value of a net, where a circuit may have this net.
+/// Says the value of a net, if a circuit may have this net.
 fn say(table: &mut Table, net: u32, one: bool)
     ensures { (i : ℕ) → i < most_bits →
         said (slice_index_or table.new i 0)

@@ -76,7 +76,7 @@ impl Circuit {
         self.nets.len() as u32
     }
 
-    /// The net of a number, or `None` exactly where it is past the last.
+    /// The net of a number, or `None` exactly if it is past the last.
     pub fn net(&self, i: u32) -> Option<&Net>
         ensures { option_copied result ≡ slice_get self.now.nets i }
     {
@@ -90,14 +90,14 @@ impl Circuit {
         self.instances.len() as u32
     }
 
-    /// The instance of a number, or `None` exactly where it is past the last.
+    /// The instance of a number, or `None` exactly if it is past the last.
     pub fn instance(&self, i: u32) -> Option<&Instance>
         ensures { option_copied result ≡ slice_get self.now.instances i }
     {
         self.instances.get(i as usize)
     }
 
-    /// The instance that drives the net of a number, or `None` exactly where nothing drives it or
+    /// The instance that drives the net of a number, or `None` exactly if nothing drives it or
     /// there is no such net.
     pub fn driver_of(&self, net: u32) -> Option<&Instance>
         ensures { option_copied result ≡ driver self.now net }
@@ -107,7 +107,7 @@ impl Circuit {
     }
 
     /// The instances with an output that have a listening pin on the net, each once, in ascending
-    /// order, and no checkers; or `None` exactly where there is no such net.
+    /// order, and no checkers; or `None` exactly if there is no such net.
     pub fn readers(&self, net: u32) -> Option<&[u32]>
         ensures { MatchOption result (length self.now.nets ≤ net) (λ readers.
             (net < length self.now.nets) × (readers.now ≡ readers_of self.now.instances net)) }
@@ -137,7 +137,7 @@ impl Circuit {
     }
 
     /// The number of the net of this whole name, path and base, and this bit, or `None` exactly
-    /// where there is none.
+    /// if there is none.
     pub fn find(&self, name: &[u8], bit: u16) -> Option<u32>
         ensures { let wanted : Name = record { text = name.now; bit = bit } in MatchOption result
             ((i : ℕ) → ¬ (IsNumber (net_names self.now.nets) wanted i))

@@ -51,7 +51,7 @@ pub enum Fault {
 /// Faults, in the order of the report.
 pub type Faults = List<Fault>;
 
-/// Appends more faults. Where memory runs out, only some of them may have been appended.
+/// Appends more faults. If memory runs out, only some of them may have been appended.
 pub fn append_faults(faults: &mut Faults, more: &Faults) -> Result<(), NoMemory>
     ensures { OnOk result (faults.new ≡ faults.old ++ more.now) }
 {

@@ -60,7 +60,7 @@ impl Feeds {
     }
 }
 
-/// Marks a net as listed, and tells whether it was not yet.
+/// Marks a net as listed, and says whether it was not yet.
 fn list(is_listed: &mut [bool], net: u32) -> bool {
     let place = net as usize;
     if place >= is_listed.len() || is_listed[place] {

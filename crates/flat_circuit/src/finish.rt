@@ -21,8 +21,8 @@ use scald_base::{AssertSpec, List, NoMemory, Stop};
 use std::alloc::Global;
 
 impl Builder {
-    /// The circuit. `TwoDrivers` comes exactly where an output is a constant, or a net that an
-    /// earlier one drives, at the first such instance; and else `ZeroLoop` exactly where instances
+    /// The circuit. `TwoDrivers` comes exactly if an output is a constant, or a net that an
+    /// earlier one drives, at the first such instance; and else `ZeroLoop` exactly if instances
     /// pass on at once round a loop, at the first instance that can be reached from one.
     pub fn finish(self) -> Result<Circuit, Stop>
         ensures { MatchResult result (Stands self) (IsRefusal self) }
@@ -51,7 +51,7 @@ impl Builder {
     }
 }
 
-/// The nets with their drivers, where the rules hold. The table of names goes before the readers
+/// The nets with their drivers, if the rules hold. The table of names goes before the readers
 /// are listed.
 fn checked_nets(
     alloc: Global,
@@ -99,7 +99,7 @@ fn nets(
     Ok(nets)
 }
 
-/// What is asserted of a text: the same as of the last net, where that is of its vector.
+/// What is asserted of a text: the same as of the last net, if that is of its vector.
 fn spec_of(
     alloc: Global,
     nets: &[Net],

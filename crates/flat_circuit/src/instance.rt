@@ -31,7 +31,7 @@ pub struct Instance {
     pub out: Option<Target>,
     /// Where its statement stands.
     pub place: Place,
-    /// Its rise and its fall delay, where it has two. `delay` then goes from the least to the
+    /// Its rise and its fall delay, if it has two. `delay` then goes from the least to the
     /// greatest of both.
     pub split: Option<Split>,
     /// The bounds of its delay, in ticks. A checker has none, whatever stands here.

@@ -12,7 +12,7 @@ pub fn later_parts_are_runs()
     ensures { LaterPartsAreRuns }
 {}
 
-/// A run of any circuit is one with another bit where no equation that is asked names that bit.
+/// A run of any circuit is one with another bit if no equation that is asked names that bit.
 pub fn unnamed_bits_are_free()
     ensures { UnnamedBitsAreFree }
 {}

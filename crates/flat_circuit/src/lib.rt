@@ -10,6 +10,11 @@
 //! number; whoever uses these numbers asks `stable` first, which is exact (`specs/Alike`,
 //! `specs/Stable`). `sorted` puts the nodes of a graph without loops into an order in which each
 //! follows those that lead to it (`specs/Node`, `specs/Sorted`).
+//!
+//! There may be 65,536 nets and twice as many instances, so both are packed: `ShortList` keeps one
+//! or two items in place, `Text` 15 bytes, `Assertion` takes memory only if there is one, and
+//! fields go from wide to narrow, since they are laid out as written. Contracts see lists, bytes
+//! and assertions, so nothing above knows.
 #![tactic(auto)]
 
 // its parts

@@ -88,7 +88,7 @@ fn are_drivers_alike(classes: &[u32], a: Option<&Instance>, b: Option<&Instance>
     }
 }
 
-/// The value that a case gives a net: the last, where it has several.
+/// The value that a case gives a net: the last, if it has several.
 pub fn value_in(values: &[CaseValue], net: u32) -> Option<bool>
     ensures { result ≡ value_in values.now net }
 {

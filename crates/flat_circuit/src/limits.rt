@@ -16,7 +16,7 @@ pub enum Limits {
 }
 
 impl Limits {
-    /// The setup time, in ticks: 0 where no edges are limited.
+    /// The setup time, in ticks: 0 if no edges are limited.
     pub fn setup(self) -> u16
         ensures { result ≡ setup_of self }
     {
@@ -26,7 +26,7 @@ impl Limits {
         }
     }
 
-    /// The hold time, in ticks: 0 where no edges are limited.
+    /// The hold time, in ticks: 0 if no edges are limited.
     pub fn hold(self) -> u16
         ensures { result ≡ hold_of self }
     {
@@ -36,7 +36,7 @@ impl Limits {
         }
     }
 
-    /// The least width of high pulses, in ticks: 0 where no pulses are limited.
+    /// The least width of high pulses, in ticks: 0 if no pulses are limited.
     pub fn high(self) -> u16
         ensures { result ≡ high_of self }
     {
@@ -46,7 +46,7 @@ impl Limits {
         }
     }
 
-    /// The least width of low pulses, in ticks: 0 where no pulses are limited.
+    /// The least width of low pulses, in ticks: 0 if no pulses are limited.
     pub fn low(self) -> u16
         ensures { result ≡ low_of self }
     {

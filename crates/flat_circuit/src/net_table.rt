@@ -79,7 +79,7 @@ impl NetTable {
         self.nets.get_index(i).unwrap().0
     }
 
-    /// The bounds of a net's wires, and 0:0 where there is no such net.
+    /// The bounds of a net's wires, and 0:0 if there is no such net.
     pub(crate) fn wire_at(&self, i: usize) -> Delay
         ensures { result ≡ bounds_at self.now.wires i }
     {

@@ -33,7 +33,7 @@ pub(crate) fn by_name(alloc: Global, nets: &[Net]) -> Result<Vec<u32>, NoMemory>
 /// before another.
 #[derive(Clone, Copy)]
 struct Stretch {
-    /// A part of the name as a number, which is greater where it comes later.
+    /// A part of the name as a number, which is greater if it comes later.
     part: u128,
     begin: u32,
     end: u32,
@@ -153,7 +153,7 @@ fn follows(before: &Net, net: &Net) -> bool {
     u32::from(net.bit) == u32::from(before.bit) + 1 && net.name == before.name
 }
 
-/// A part of a net's name as a number, from this byte on, and the bit where the name ends in it.
+/// A part of a net's name as a number, from this byte on, and the bit if the name ends in it.
 /// What is past the end counts 0.
 fn part_of(net: &Net, first: usize) -> u128 {
     let name = net.name.as_slice();

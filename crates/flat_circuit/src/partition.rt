@@ -2,7 +2,7 @@
 //!
 //! What tells nets apart by themselves, and the values of cases, split the classes once. Then the
 //! nets whose drivers have a pin on a net of a new class are looked at again, until no class
-//! splits. Of the parts of a class the largest keeps its number where all of its nets were looked
+//! splits. Of the parts of a class the largest keeps its number if all of its nets were looked
 //! at, so a net gets a new number a few times at most in most circuits. Nets are compared by keys,
 //! and not with each other, so a look at some nets costs their pins and the sorting of their keys.
 
@@ -327,7 +327,7 @@ impl Partition {
     }
 }
 
-/// The first net of a class: this one, where there has been none.
+/// The first net of a class: this one, if there has been none.
 fn first_of(firsts: &mut [Option<u32>], class: u32, net: u32) -> u32 {
     let class = class as usize;
     if class >= firsts.len() {

@@ -14,7 +14,7 @@ use scald_base::{NoMemory, Place, RefusalKind, Stop};
 use std::alloc::Global;
 use vector_names::Target;
 
-/// Fails with `ZeroLoop` exactly where instances pass on at once round a loop, at the first
+/// Fails with `ZeroLoop` exactly if instances pass on at once round a loop, at the first
 /// instance that can be reached from one.
 pub(crate) fn no_loop(
     alloc: Global,
@@ -112,7 +112,7 @@ fn push_some(list: &mut Vec<usize>, value: Option<usize>) -> Result<(), NoMemory
     Ok(())
 }
 
-// The driver of what a pin is on, where it passes on without delay.
+// The driver of what a pin is on, if it passes on without delay.
 fn quick(
     nets: &NetTable,
     drivers: &[Option<u32>],

@@ -8,7 +8,7 @@ use scald_base::NoMemory;
 use std::alloc::Global;
 use std::marker::Model;
 
-/// Where the items of a short list lie: in the value itself, or apart where they are more than two.
+/// Where the items of a short list lie: in the value itself, or apart if they are more than two.
 #[derive(Drop, Debug)]
 pub(crate) enum Kept<T> {
     Nothing,
@@ -105,7 +105,7 @@ impl<T: Copy> ShortList<T> {
         Ok(ShortList { kept, alloc })
     }
 
-    /// Appends an item. Where memory runs out the list is as before, and the item is dropped.
+    /// Appends an item. If memory runs out the list is as before, and the item is dropped.
     pub fn push(&mut self, item: T) -> Result<(), NoMemory>
         ensures ok { OnOk result (self.new ≡ self.old ++ item ∷ []) }
         ensures err { OnErr result (self.new ≡ self.old) }

@@ -26,15 +26,15 @@ impl Split {
     }
 }
 
-/// Where the rise delay and the fall delay are equal, the equation of two delays is that of this
+/// If the rise delay and the fall delay are equal, the equation of two delays is that of this
 /// delay, and is asked at the same ticks.
 pub fn equal_delays_are_one()
     ensures { EqualDelaysAreOne }
 {}
 
-/// Where the rise delay is at least the fall delay, the output is 1 just where the gate's own bit
-/// is 1 on all ticks from the rise delay before to the fall delay before. Where the fall delay is
-/// the greater, it is 1 just where that bit is 1 on some tick from the fall delay before to the
+/// If the rise delay is at least the fall delay, the output is 1 exactly if the gate's own bit
+/// is 1 on all ticks from the rise delay before to the fall delay before. If the fall delay is
+/// the greater, it is 1 exactly if that bit is 1 on some tick from the fall delay before to the
 /// rise delay before.
 pub fn every_tick_counts()
     ensures { EveryTickCounts }

@@ -8,7 +8,7 @@ use crate::class_map::ClassMap;
 use crate::likeness::{are_nets_alike, class_of};
 use crate::{Case, CaseList, Circuit};
 
-/// Whether the nets of two numbers are alike, where there are such nets.
+/// Whether the nets of two numbers are alike, if there are such nets.
 fn are_alike(c: &Circuit, cases: &[Case], classes: &[u32], number: u32, other: u32) -> bool
     ensures { MatchBool result (AreAlikeAt c.now cases.now classes.now number other)
         (¬ (AreAlikeAt c.now cases.now classes.now number other)) }
@@ -101,7 +101,7 @@ fn are_alike_in_pairs(c: &Circuit, cases: &[Case], classes: &[u32]) -> bool
 }
 
 /// Whether nets of one class are indistinguishable, in the circuit and in each case: they then have
-/// one wave in every round. It needs no allocation. Where each class has the number of one of its
+/// one wave in every round. It needs no allocation. If each class has the number of one of its
 /// nets, it looks at each net once, and once for each case; else at all pairs of nets.
 pub fn stable(c: &Circuit, cases: &CaseList, numbers: &ClassMap) -> bool
     requires { length numbers.now ≡ length c.now.nets }

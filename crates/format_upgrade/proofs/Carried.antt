@@ -1,4 +1,4 @@
--- Drawings that are alike have flat circuits that are alike, where the first has one.
+-- Drawings that are alike have flat circuits that are alike, if the first has one.
 use Rattle.std.proofs.Common.{◌≡◌, ℕ, zero, suc, ◌+◌, ℤ, Bool, true, false, if◌then◌else◌, nat_lt, List, [], ◌∷◌, ◌++◌, length, map, Option, Some, None, refl, ap, sym, subst, arith}
 use Rattle.std.specs.Prelude.{⊤}
 use Rattle.scald_base.specs.Time.{period}

@@ -26,7 +26,7 @@ pub record GivesAlike {A : Type 0} (a : A) (s : State) (o : Outcome A) : Type 0 
   pub is : o ≡ Gives a state
   pub alike : AreAlike s state
 
--- where the first gives something, the second gives what this makes of it
+-- if the first gives something, the second gives what this makes of it
 abbrev pub FollowsAs : {A B : Type 0} → (A → B) → Outcome A → Outcome B → Type 0
 FollowsAs f (Gives a s) o = GivesAlike (f a) s o
 FollowsAs f (Fails kind place) o = ⊤
@@ -86,7 +86,7 @@ counted_alike s t h = record {
 
 -- ---- wires
 
--- the wire of a net, where that of another one is set
+-- the wire of a net, if that of another one is set
 abbrev wire_set : Option Bounds → Bool → Bounds → Option Bounds
 wire_set None same new = None
 wire_set (Some w) true new = Some new

@@ -102,7 +102,7 @@ module _ (d : Drawing) (circuit : State) (expanded : flat d ≡ Gives tt circuit
         cases = same_cases circuit last.state alike d again.drawing (sym (ap (λ (x : Drawing). x.cases) same) ∙ ap (map unplaced_case) c.cases);
       }
 
--- Where some text draws a drawing, the upgraded text draws one with the same flat circuit and the same cases.
+-- If some text draws a drawing, the upgraded text draws one with the same flat circuit and the same cases.
 pub keeps_circuit : (d : Drawing) → KeepsCircuit d (upgraded_text d)
 keeps_circuit d source circuit draws shallow expanded =
     let good = well_formed source draws.tokens d draws.are draws.draws in

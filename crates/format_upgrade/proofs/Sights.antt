@@ -1,4 +1,4 @@
--- What of a circuit by names says nothing of the order of its nets, nor of places; and what it becomes where a net is named or
+-- What of a circuit by names says nothing of the order of its nets, nor of places; and what it becomes if a net is named or
 -- something asserted.
 use Rattle.std.proofs.Common.{◌≡◌, ℕ, ◌+◌, ◌∙◌, Bool, true, false, not, ◌&&◌, ◌||◌, if◌then◌else◌, nat_lt, List}
 use Rattle.std.proofs.Common.{[], ◌∷◌, ◌++◌, length, map, Option, Some, None, refl, ap, sym, ap₂, arith, add-zero}
@@ -46,7 +46,7 @@ pub record IsSound (s : State) : Type 0 where
 
 -- ---- a net or an assertion more
 
--- the wire of a net, where the wire of another one is put beside
+-- the wire of a net, if the wire of another one is put beside
 abbrev pub wire_beside : Option Bounds → Bool → Bounds → Option Bounds
 wire_beside (Some w) same new = Some w
 wire_beside None true new = Some new
@@ -63,7 +63,7 @@ is_room None count = nat_lt count most_bits
 abbrev pub with_name : Name → Sight → Sight
 with_name n v = record v { count = v.count + nets_more (v.wires n); wires = λ m. wire_beside (v.wires m) (same_name m n) v.header.wire }
 
--- the assertion of a text, where that of another one is put beside
+-- the assertion of a text, if that of another one is put beside
 abbrev pub spec_beside : AssertSpec → Bool → AssertSpec → AssertSpec
 spec_beside Unasserted same new = if same then new else Unasserted
 spec_beside (Precision c) same new = Precision c
@@ -84,7 +84,7 @@ pub data Note : Type 0 where
   Names : Name → Note
   Asserts : List ℕ → AssertSpec → Note
 
--- the circuit after a note, where the note is not refused
+-- the circuit after a note, if the note is not refused
 abbrev pub noted : Note → State → Option State
 noted (Names n) s = if has_name s.names n then Some s else if nat_lt (length s.names) most_bits then Some (with_net s n) else None
 noted (Asserts text spec) s = if clashes s.asserted text spec then None else Some (with_assertion s text spec)
@@ -258,7 +258,7 @@ module _ (given : List Asserted) (real : (x : List ℕ) → is_asserted (spec_of
       end true = a
       end false = refl
 
-  -- where the text has an assertion, it keeps that
+  -- if the text has an assertion, it keeps that
   kept_by : (b : Bool) (x : List ℕ) → bytes_eq x text ≡ b → has_text given text ≡ true → spec_of given x ≡ spec_beside (spec_of given x) (bytes_eq x text) spec
   kept_by true x e h =
       let same : x ≡ text = (bytes_eq-Decides x text).0 e in

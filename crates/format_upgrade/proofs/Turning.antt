@@ -190,7 +190,7 @@ module _ (scope : Scope) where
       after_same (Gives js w) f g h = h js w
       after_same (Fails kind place) f g h = refl
 
-  -- where a connection stands is not looked at
+  -- if a connection stands is not looked at
   pub joined_unplaced : (at : Place) (cs ds : List Connection) (s : State) → map unplaced_connection ds ≡ map unplaced_connection cs →
       all_joined scope at ds s ≡ all_joined scope at cs s
   unfolding all_joined

@@ -129,7 +129,7 @@ module _ (S T : Setting) (ticks : T.ticks ≡ S.ticks) (kind : Kind) (scope : Sc
       (in_pin_order (is_least_first S.version) kind w.ins) w.outs s1 t1 labels h))
       tt
 
-  -- A use follows another where its inputs do: turned so, and turned back by the order of its pins.
+  -- A use follows another if its inputs do: turned so, and turned back by the order of its pins.
   primitive_by : ((plan : Plan) → plan_of S.ticks kind scope.env u ≡ Ok plan → FollowsAs turn (all_joined scope u.place u.ins s) (all_joined scope v.place v.ins t)) →
       Follows (primitive_use S kind scope u s) (primitive_use T kind scope v t)
   unfolding primitive_use wires_of

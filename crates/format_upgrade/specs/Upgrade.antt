@@ -18,7 +18,7 @@ pub record DrawsSame (text : List ℕ) (d : Drawing) (circuit : State) : Type 0 
   pub same : SameCircuit circuit state
   pub cases : SameCases (cases_of circuit d) (cases_of state drawing)
 
--- Where some text draws the drawing, that nests no deeper than a text may, and it has a flat
+-- If some text draws the drawing, that nests no deeper than a text may, and it has a flat
 -- circuit, the text draws one with the same circuit.
 abbrev pub KeepsCircuit : Drawing → List ℕ → Type 0
 KeepsCircuit d text =

@@ -23,7 +23,7 @@ use std::alloc::Global;
 pub enum Order {
     /// That of the drawing.
     Kept,
-    /// The other: least significant first where it was last.
+    /// The other: least significant first if it was last.
     Reversed,
 }
 

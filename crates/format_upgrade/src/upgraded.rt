@@ -49,13 +49,13 @@ fn in_last_version(alloc: Global, drawing: &Drawing) -> Result<Drawing, NoMemory
     copied(alloc, drawing, 2, order)
 }
 
-/// The canonical text of a drawing in version 2 of the language. Where the drawing has version 1,
+/// The canonical text of a drawing in version 2 of the language. If the drawing has version 1,
 /// the selects of each MUX4 with 6 and of each MUX8 with 11 input connections stand in reverse
 /// order.
 ///
-/// Where some text draws the drawing, which nests no deeper than a text may and has a flat circuit,
+/// If some text draws the drawing, which nests no deeper than a text may and has a flat circuit,
 /// the upgraded text draws a drawing with the same flat circuit and the same cases, places aside.
-/// `NoMemory` comes where memory runs out.
+/// `NoMemory` comes if memory runs out.
 pub fn upgrade(alloc: Global, drawing: &Drawing) -> Result<Bytes, NoMemory>
     ensures text { IfOk result (λ text. text ≡ upgraded_text (drawing_of drawing.now)) }
     ensures same { IfOk result (KeepsCircuit (drawing_of drawing.now)) }

@@ -41,7 +41,7 @@ pub both_slots : (f : List Value → Value) (xs ys : List Value) (n : ℕ) → l
 both_slots f xs ys n long same =
     zipped (λ v u. f (v ∷ u ∷ [])) xs ys n (cell_at values xs) (cell_at values ys) (as_slots xs n long) (as_slots ys n (same ∙ long))
 
--- the same, where the list of the waves has one, or has two
+-- the same, if the list of the waves has one, or has two
 
 pub alone_imaged : {U : Type 0} (f : List Value → Value) (cells : U → List Value) (waves : List U) (only : U) (n : ℕ) → length waves ≡ 1 →
     only ≡ get_or waves 0 only → All (λ u. length (cells u) ≡ n) waves →

@@ -49,7 +49,7 @@ or_rest : {A : Type 0} (o p : Option A) → is_none p ≡ false → is_none (opt
 or_rest None p e = e
 or_rest (Some x) p e = refl
 
--- where one is there, some first one is
+-- if one is there, some first one is
 pub first_some_some : {A : Type 0} (f : ℕ → Option A) (n i j : ℕ) → i ≤ j → j < i + n → is_none (f j) ≡ false → is_none (first_some f n i) ≡ false
 first_some_some f zero i j after within here = absurd (omega arith)
 first_some_some f (suc n) i j after within here = elim (cases_eq j i) [

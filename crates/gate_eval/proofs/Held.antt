@@ -1,4 +1,4 @@
--- Where no slot has a hazard, the marked pin keeps the gate's output, or the other pins stay as they are.
+-- If no slot has a hazard, the marked pin keeps the gate's output, or the other pins stay as they are.
 use Rattle.std.proofs.Common.{inl, inr, ◌≡◌, ◌≢◌, ℕ, zero, suc, ◌+◌, ◌-◌, ◌%◌, ◌<◌, ◌≤◌, Bool, true, false, not, ◌&&◌, cond, List, [], ◌∷◌, length, eqb, refl, sym, ap, subst, ◌∙◌, Option, Some, None, arith}
 use Rattle.std.specs.Option.{option_or, option_map}
 use Rattle.std.proofs.lemmas.Bool.{and_parts, cases_eq, ne_eqb, not-true}
@@ -26,7 +26,7 @@ or_none : {A : Type 0} (o p : Option A) → option_or o p ≡ None → (o ≡ No
 or_none None p e = (refl, e)
 or_none (Some x) p e = cc
 
--- where there is none, none of them is
+-- if there is none, none of them is
 pub first_some_none : {A : Type 0} (f : ℕ → Option A) (n i j : ℕ) → first_some f n i ≡ None → i ≤ j → j < i + n → f j ≡ None
 first_some_none f zero i j none after before = absurd (omega arith)
 first_some_none f (suc n) i j none after before = elim (cases_eq j i) [
@@ -52,7 +52,7 @@ unmoved true quiet pin other none = cc
 unmoved false true pin other none = refl
 unmoved false false pin other none = cc
 
--- where nothing moves beside the marked pin, each other pin is quiet
+-- if nothing moves beside the marked pin, each other pin is quiet
 pub beside_quiet : (marked : ℕ) (folds : List Value) (pin : ℕ) → mover_beside marked folds ≡ None → pin < length folds → pin ≢ marked → is_quiet (value_of_pin folds pin) ≡ true
 beside_quiet marked folds pin none below apart =
     unmoved (eqb pin marked) (is_quiet (value_of_pin folds pin)) pin (ne_eqb pin marked apart)
@@ -120,7 +120,7 @@ module _ (bit : Bool → Bool → Bool) (whole : List Bool → Bool) (closed : B
       let rest : whole (bits_at xs (t - 1)) ≡ whole (bits_at xs t) = still_whole xs t (λ pin below. still (suc pin) (omega arith)) in
       more (x (t - 1)) (bits_at xs (t - 1)) ∙ (λ i. bit (first i) (rest i)) ∙ sym (more (x t) (bits_at xs t))
 
-  -- where the other pins do not step, the marked one goes with one bit of theirs
+  -- if the other pins do not step, the marked one goes with one bit of theirs
   passes : (xs : List Signal) (marked t : ℕ) → marked < length xs → ((pin : ℕ) → pin < length xs → pin ≢ marked → nth_signal xs pin (t - 1) ≡ nth_signal xs pin t) →
       (rest : Bool) × (whole (bits_at xs (t - 1)) ≡ bit (nth_signal xs marked (t - 1)) rest) × (whole (bits_at xs t) ≡ bit (nth_signal xs marked t) rest)
   passes [] marked t below still = absurd (omega arith)

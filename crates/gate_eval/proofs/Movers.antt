@@ -1,4 +1,4 @@
--- One offset for all pins, where at most one of them moves.
+-- One offset for all pins, if at most one of them moves.
 use Rattle.std.proofs.Common.{◌≡◌, ℕ, ◌-◌, ◌<◌, ◌≤◌, Bool, true, false, not, List, [], ◌∷◌, refl, sym, ap, ◌∙◌, cond, Some, arith}
 use Rattle.scald_base.specs.Signal.{Signal}
 use Rattle.scald_base.specs.Clock.{back}
@@ -26,7 +26,7 @@ kept_one w [] skew e = (refl, cc)
 kept_one w (m ∷ ms) skew e = cc
 
 module _ {T : Type 0} (k : Cells T) (laws : IsLawful k) where
-  -- where no wave moves, any offset serves
+  -- if no wave moves, any offset serves
   still_have : (period : ℕ) (waves : List (Wave T)) (n : ℕ) (xs : List Signal) (v t o : ℕ) → 0 < period → movers k waves ≡ [] → AllFit k period waves →
       AllPermit k waves n xs v → 1 ≤ t → v ≤ t → t < n → AllHave k (cells_in k waves (back period t o)) xs t
   still_have period [] n [] v t o some none fits ps t1 tv tn = tt

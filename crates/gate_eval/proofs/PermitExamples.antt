@@ -222,7 +222,7 @@ late_fall_at_both_ends = record {
       sound n (n + 1) v rise fall signals output permit one rises falls (omega arith) obeys;
 }
 
--- Where a wave keeps what another permits, moved: a signal that is late by a delay within the
+-- If a wave keeps what another permits, moved: a signal that is late by a delay within the
 -- bounds is permitted from as much later on, to its last tick.
 moved_to_both_ends : (w w' : Wave Value) (d : Bounds) → KeepsMoved values w w' d →
     (n v delay : ℕ) (x : Signal) → Permits values w n x v → d.min ≤ delay → delay ≤ d.max → 1 ≤ v →

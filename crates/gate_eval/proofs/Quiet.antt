@@ -22,7 +22,7 @@ use Rattle.gate_eval.specs.Meeting.{HaveOnePeriod, cells_in, folds_in, kept_skew
 use Rattle.gate_eval.specs.Quiet.{IsQuietAt, IsQuietBefore, LateIsQuiet}
 use Rattle.gate_eval.proofs.Movers.{kept_one, movers_moving, movers_steady}
 
--- f 0 to f n are quiet where their join is
+-- f 0 to f n are quiet if their join is
 each_quiet : (f : ℕ → Value) (n o : ℕ) → is_quiet (join_to values f n) ≡ true → o ≤ n → is_quiet (f o) ≡ true
 each_quiet f zero o quiet most = let same : o ≡ 0 = omega (arith, most) in subst (λ (i : ℕ). is_quiet (f i) ≡ true) (sym same) quiet
 each_quiet f (suc n) o quiet most = elim (cases_lt o (suc n)) [

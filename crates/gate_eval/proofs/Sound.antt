@@ -213,7 +213,7 @@ gate_sound RiseFall waves marked d gate mark some fits = λ n m v delay xs y ps 
 gate_sound MinPulse waves marked d gate mark some fits = λ n m v delay xs y ps v1 within mn obeys. cc
 gate_sound kind waves marked d gate mark some fits = λ n m v delay xs y ps v1 within mn obeys. moved_sound kind waves marked d n m v delay xs y some fits mark ps v1 within mn obeys
 
--- where there is no hazard, the rule of the mark is kept
+-- if there is no hazard, the rule of the mark is kept
 pub no_hazard : (kind : Kind) (waves : List (Wave Value)) (mark : Option ℕ) → None ≡ hazard kind waves mark → MarkFits kind mark (length waves) →
     0 < period_of waves → AllFit values (period_of waves) waves → KeepsMark kind waves mark
 unfolding hazard

@@ -48,7 +48,7 @@ module _ (s : Split) (cells : List Value) (p : ℕ) (rise : s.rise.min ≤ s.ris
   mixed bit true false same h h' = inr (by_fall (not bit) h')
   mixed bit true true same h h' = inl (by_both bit true h (ap (ends_in bit) (sym (same refl refl)) ∙ h))
 
-  -- where each delay is the longer one whatever both are, they are one delay
+  -- if each delay is the longer one whatever both are, they are one delay
   one_slot : nat_le s.fall.max s.rise.min ≡ true → nat_le s.rise.max s.fall.min ≡ true → at_rise ≡ at_fall
   one_slot h h' =
       let l : s.fall.max ≤ s.rise.min = leb-true s.fall.max s.rise.min h in

@@ -60,7 +60,7 @@ fall_at_least : late_by_two (skewed pulse 0) (delays 1 2 2 3) ≡ skewed (F ∷ 
 unfolding earlier back
 fall_at_least = refl
 
--- a pulse of one slot, and a gap: where it may be 1 in one slot alone, it rises there and does not fall there, since the
+-- a pulse of one slot, and a gap: if it may be 1 in one slot alone, it rises there and does not fall there, since the
 -- slot before may not be 1; and the reverse
 short_pulse : late_by_two (skewed (Zero ∷ Zero ∷ R ∷ F ∷ Zero ∷ Zero ∷ Zero ∷ Zero ∷ []) 0) (delays 2 2 1 1)
     ≡ skewed (Zero ∷ Zero ∷ Zero ∷ Zero ∷ R ∷ Zero ∷ Zero ∷ Zero ∷ []) 0
@@ -83,7 +83,7 @@ keeps_its_skew : late_by_two (skewed pulse 3) (delays 2 2 1 1) ≡ skewed (Zero 
 unfolding earlier back
 keeps_its_skew = refl
 
--- what is unknown stays unknown where all four steps are there, and else not
+-- what is unknown stays unknown if all four steps are there, and else not
 unknown : late_by_two (skewed (U ∷ U ∷ []) 0) (delays 1 2 0 0) ≡ skewed (U ∷ U ∷ []) 0
 unfolding earlier back
 unknown = refl

@@ -56,7 +56,7 @@ all_to_alike f h (suc n) e =
     let last : f (suc n) ≡ h (suc n) = e (suc n) in
     λ j. before j && last j
 
--- a test that passes where either of two joined values does
+-- a test that passes if either of two joined values does
 pub window_some : (test : Value → Bool) → ((v w : Value) → test (join v w) ≡ (test v || test w)) → (cells : List Value) (d : Bounds) (p : ℕ) → 0 < length cells →
     test (window (skewed cells 0) d p) ≡ some_before test cells d p
 window_some test through cells d p some =
@@ -111,7 +111,7 @@ edges_fall true false = refl
 edges_fall false true = refl
 edges_fall false false = refl
 
--- What is unknown only counts where the output may be at both bits.
+-- What is unknown only counts if the output may be at both bits.
 unknown_counts : (low rises falls high unknown : Bool) →
     cover_of low (high && rises) (low && falls) high (low && (high && unknown)) ≡ cover_of low (high && rises) (low && falls) high unknown
 unknown_counts true rises falls true unknown = refl
@@ -150,7 +150,7 @@ module _ (s : Split) (cells : List Value) (some : 0 < length cells) where
   unknown_is p = window_some is_unknown join_unknown cells (either_delay s) p some
 
   module _ (rise : s.rise.min ≤ s.rise.max) (fall : s.fall.min ≤ s.fall.max) where
-    -- where each delay is the longer one whatever both are, they are one delay, and all windows are one
+    -- if each delay is the longer one whatever both are, they are one delay, and all windows are one
     one_window : (p : ℕ) → nat_le s.fall.max s.rise.min ≡ true → nat_le s.rise.max s.fall.min ≡ true →
         may_be false false s cells p ≡ may_be false true s cells p
     one_window p h h' =

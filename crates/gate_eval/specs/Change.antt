@@ -1,4 +1,4 @@
--- The change function: its output may change only where some pin may have changed, within the
+-- The change function: its output may change only if some pin may have changed, within the
 -- bounds of its delay before.
 use Rattle.std.specs.Prelude.{ℕ, zero, suc, ◌+◌, ◌-◌, Bool, not, ◌&&◌, List, if◌then◌else◌}
 use Rattle.std.specs.List.{list_all}
@@ -26,7 +26,7 @@ pass_before test waves d p =
 abbrev pub is_known : Value → Bool
 is_known v = not (is_unknown v)
 
--- S where all of these folds are quiet, U where one of them is U, and else C
+-- S if all of these folds are quiet, U if one of them is U, and else C
 abbrev pub change_at : List (Wave Value) → Bounds → ℕ → Value
 change_at waves d p =
     if pass_before is_quiet waves d p then S else if pass_before is_known waves d p then C else U

@@ -27,7 +27,7 @@ abbrev pub staying : Bool → Value
 staying false = Zero
 staying true = One
 
--- the pin stays at the bit that settles the output, where there is one
+-- the pin stays at the bit that settles the output, if there is one
 abbrev pub is_settled : Option Bool → Value → Bool
 is_settled None v = false
 is_settled (Some bit) v = same v (staying bit)
@@ -57,7 +57,7 @@ hazard_beside kind waves marked =
     option_map (λ pin. (slot, pin)) (disturber kind marked (folds_in values waves slot)))
     (period_of waves) 0
 
--- the same, where a pin is marked
+-- the same, if a pin is marked
 unfoldable pub hazard : Kind → List (Wave Value) → Option ℕ → Option (ℕ × ℕ)
 hazard kind waves None = None
 hazard kind waves (Some marked) = hazard_beside kind waves marked
@@ -77,7 +77,7 @@ IsHeld closed marked signals t =
     ⊎ ((pin : ℕ) → pin < length signals → pin ≢ marked →
     nth_signal signals pin (t - 1) ≡ nth_signal signals pin t)
 
--- The pins' signals keep the rule of the mark at each tick from v on, where their waves permit them
+-- The pins' signals keep the rule of the mark at each tick from v on, if their waves permit them
 -- from there on.
 abbrev pub KeepsMark : Kind → List (Wave Value) → Option ℕ → Type 0
 KeepsMark kind waves mark =

@@ -30,7 +30,7 @@ pub record CountsFit (kind : Kind) (pins marked : ℕ) : Type 0 where
   pub most : pins ≤ (pin_counts kind).1
   pub marks : marked ≤ greatest_marks kind
 
--- one of so many pins, where there is a bit that settles the output
+-- one of so many pins, if there is a bit that settles the output
 abbrev pub MarkIsAt : Option Bool → ℕ → ℕ → Type 0
 MarkIsAt None marked pins = ⊥
 MarkIsAt (Some bit) marked pins = marked < pins
@@ -48,7 +48,7 @@ wave_of_pin waves pin = slice_index_or waves pin (skewed [] 0)
 abbrev pub held_wave : (List Value → Value) → Wave Value → Wave Value
 held_wave image w = skewed (map (λ v. image (v ∷ S ∷ [])) w.cells) w.skew
 
--- Where a pin is marked and nothing disturbs it, what passes of its wave; else what the waves make
+-- If a pin is marked and nothing disturbs it, what passes of its wave; else what the waves make
 -- where they meet.
 abbrev pub image_by : (List Value → Value) → List (Wave Value) → Option ℕ → Option (ℕ × ℕ) →
     Wave Value

@@ -1,5 +1,5 @@
--- The waves of several pins meet in an element. Where at most one of them moves, its skew is kept
--- beside the slots; where more do, each is folded first, since each may be late by its own amount.
+-- The waves of several pins meet in an element. If at most one of them moves, its skew is kept
+-- beside the slots; if more do, each is folded first, since each may be late by its own amount.
 use Rattle.std.specs.Prelude.{◌≡◌, ℕ, not, All, List, [], ◌∷◌, length, map, filter, Option, Some, None}
 use Rattle.wave_core.specs.Cell.{Cells}
 use Rattle.wave_core.specs.Slots.{slots}
@@ -17,7 +17,7 @@ folds_in k waves slot = map (λ w. fold k w slot) waves
 abbrev pub movers : {T : Type 0} → Cells T → List (Wave T) → List (Wave T)
 movers k waves = filter (λ w. not (is_steady k w.cells)) waves
 
--- The skew that is kept: that of the one wave that moves, and none where no wave does. Where more
+-- The skew that is kept: that of the one wave that moves, and none if no wave does. If more
 -- move there is no one skew.
 abbrev pub kept_skew : {T : Type 0} → List (Wave T) → Option ℕ
 kept_skew [] = Some 0
@@ -37,7 +37,7 @@ meeting_by k image waves (Some skew) =
     skewed (slots (period_of waves) (λ p. image (cells_in k waves p))) skew
 meeting_by k image waves None = skewed (slots (period_of waves) (λ p. image (folds_in k waves p))) 0
 
--- what an element makes of its pins' waves, where the image gives the cell that it makes of a cell
+-- what an element makes of its pins' waves, if the image gives the cell that it makes of a cell
 -- for each pin
 unfoldable pub meeting : {T : Type 0} → Cells T → (List T → T) → List (Wave T) → Wave T
 meeting k image waves = meeting_by k image waves (kept_skew (movers k waves))

@@ -1,5 +1,5 @@
 -- What a gate with two delays makes of its pins' waves. Its image is taken as it comes, and is late
--- by a rise delay where the output comes to 1 and by a fall delay where it comes to 0.
+-- by a rise delay when the output comes to 1 and by a fall delay when it comes to 0.
 use Rattle.std.specs.Prelude.{◌≡◌, ◌⊎◌, ℕ, zero, suc, ◌+◌, ◌-◌, ◌<◌, ◌≤◌, nat_le, Bool, true, false, ◌&&◌, ◌||◌, if◌then◌else◌, List, length, Option}
 use Rattle.scald_base.specs.Clock.{back}
 use Rattle.scald_base.specs.Time.{Bounds}
@@ -38,7 +38,7 @@ abbrev pub may_fall : Value → Bool
 may_fall v = has v true false
 
 -- In slot p the output may be at this bit: some slot from the greatest to the least of both delays
--- before ends in it. Where the delay to the bit is at least the other one whatever both are, some
+-- before ends in it. If the delay to the bit is at least the other one whatever both are, some
 -- slot that the rise delay reaches and some slot that the fall delay reaches do.
 abbrev pub may_be : Bool → Bool → Split → List Value → ℕ → Bool
 may_be bit is_longer s cells p =

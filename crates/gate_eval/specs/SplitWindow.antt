@@ -1,6 +1,8 @@
 -- How the slots of two delays are found: the bits that the output may be at, by what the slots from
 -- the greatest to the least of both delays before may hold together, and those that the rise delay
--- and the fall delay reach; then the edges that those of the slot before leave.
+-- and the fall delay reach; then the edges that those of the slot before leave. A slot depends on
+-- three windows and on those of the slot before, six values, which no zip of two waves takes; the
+-- bits and the edges are two such zips. The proof for 0 is that for 1 with the delays exchanged.
 use Rattle.std.specs.Prelude.{ℕ, nat_le, Bool, true, false, ◌&&◌, if◌then◌else◌, List}
 use Rattle.step_values.specs.declared.value.Value.{Value}
 use Rattle.step_values.specs.declared.value.Value.TheVariants.{Zero, One, S, U}
@@ -13,7 +15,7 @@ use Rattle.gate_eval.specs.Split.{ends_in, may_rise, may_fall}
 
 -- ---- the bits
 
--- an output that stays at one of the bits that it may be at: U where it may be at both, and
+-- an output that stays at one of the bits that it may be at: U if it may be at both, and
 -- something is unknown
 abbrev pub resting : Bool → Bool → Bool → Value
 resting true true true = U
@@ -24,11 +26,11 @@ resting false high unknown = One
 abbrev pub own_bits : Value → Value
 own_bits either = resting (ends_in false either) (ends_in true either) (is_unknown either)
 
--- 1 where both windows end in the bit
+-- 1 if both windows end in the bit
 abbrev pub both_end : Bool → Value → Value → Value
 both_end bit rise fall = staying (ends_in bit rise && ends_in bit fall)
 
--- the bits where the delay to 1 is at least the other one whatever both are, and where that to 0 is
+-- the bits if the delay to 1 is at least the other one whatever both are, and if that to 0 is
 abbrev pub slow_rise_bits : Value → Value → Value
 slow_rise_bits either both = resting (ends_in false either) (ends_in true both) (is_unknown either)
 
@@ -49,7 +51,7 @@ bits_at s either rise fall p =
 
 -- ---- the edges
 
--- it may stay at either bit, and rise and fall where that is said
+-- it may stay at either bit, and rise and fall if that is said
 abbrev pub edges : Bool → Bool → Value
 edges rises falls = cover_of true rises falls true false
 

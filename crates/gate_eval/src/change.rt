@@ -130,7 +130,7 @@ fn seen<W: CyclicWave<Item = Value>>(
     gathered.all(alloc, d)
 }
 
-/// How the output may change where the pins may hold this.
+/// How the output may change if the pins may hold this.
 fn change_of(v: Value) -> Value
     ensures { result ≡ change_value v }
 {

@@ -186,7 +186,7 @@ fn evaluated<W: CyclicWave<Item = Value>>(
 }
 
 /// The wave of the output of a gate or change function, before the output's complement, from the
-/// waves of its pins and the bounds of its delay, in ticks. It fails only where memory runs out.
+/// waves of its pins and the bounds of its delay, in ticks. It fails only if memory runs out.
 pub fn eval_gate<W: CyclicWave<Item = Value>>(
     alloc: Global,
     kind: Kind,

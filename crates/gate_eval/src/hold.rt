@@ -170,7 +170,7 @@ fn hazard_among<W: CyclicWave<Item = Value>>(kind: Kind, pins: &[PinWave<W>]) ->
 }
 
 /// The hazard of a marked pin: the first slot in which it lets the others through and another pin
-/// may change, and the first such pin there, from 0. `None` where no pin is marked, and where there
+/// may change, and the first such pin there, from 0. `None` if no pin is marked, and if there
 /// is no such slot.
 pub fn hold_fault<W: CyclicWave<Item = Value>>(kind: Kind, pins: &PinWaves<W>) -> Option<(u16, u16)>
     requires pins { CountsFit kind (length pins.now) (count_by (λ p. p.hold) pins.now) }

@@ -4,10 +4,9 @@
 //! The layer above calls [`eval_gate`] for the wave of an element's output, before its complement,
 //! [`eval_split`] for that of a gate with two delays, and [`hold_fault`] for the hazard of a marked
 //! pin; [`met`] does the same as [`eval_gate`] for an [`Image`] of another crate. `specs/Instance`
-//! says which wave comes and what it permits: `specs/Meeting` where several waves meet,
-//! `specs/Gates` what a gate makes of values, `specs/Hold` the mark and its rule, `specs/Change`
-//! the change function,
-//! `specs/Split` two delays, by `specs/SplitWindow`.
+//! says which wave comes and what it permits: `specs/Meeting` if several waves meet, `specs/Gates`
+//! what a gate makes of values, `specs/Hold` the mark and its rule, `specs/Change` the change
+//! function, `specs/Split` two delays, by `specs/SplitWindow`.
 #![tactic(auto)]
 
 // pins

@@ -47,7 +47,7 @@ pub fn late<W: CyclicWave<Item = Value>>(
     Skewed::normal(alloc, turned, skew + (d.max - d.min))
 }
 
-/// The skew that is kept beside the slots: that of the one pin that moves. `None` where more move.
+/// The skew that is kept beside the slots: that of the one pin that moves. `None` if more move.
 pub fn kept_skew<W: CyclicWave<Item = Value>>(pins: &[PinWave<W>]) -> Option<u16>
     ensures kept { result ≡ kept (movers values (map (λ p. p.wave) pins.now)) }
     ensures short { IfSome result (λ skew. skew < 4096) }
@@ -280,7 +280,7 @@ pub fn by_folds<W: CyclicWave<Item = Value>, I: Image>(
 }
 
 /// What an element makes of its pins' waves before its delay: with the skew of the pin that moves,
-/// where at most one does, and else of the folds.
+/// if at most one does, and else of the folds.
 pub fn met_at_once<W: CyclicWave<Item = Value>, I: Image>(
     alloc: Global,
     image: &I,

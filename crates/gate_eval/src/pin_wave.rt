@@ -8,7 +8,7 @@ use scald_base::List;
 use skew_algebra::Skewed;
 use wave_core::CyclicWave;
 
-/// What a pin shows: its net's wave, moved by the wire and complemented where the pin is marked so.
+/// What a pin shows: its net's wave, moved by the wire and complemented if the pin is marked so.
 #[derive(Drop)]
 pub struct PinWave<W: CyclicWave> {
     /// The wave at the pin.

@@ -32,21 +32,16 @@ fn ends_in(bit: bool, v: Value) -> bool
     })
 }
 
-/// The least value that permits the steps that are named true: U where all are, and something is
-/// unknown. Where none is, which no wave brings about, it is 1.
+/// The least value that permits the steps that are named true: U if all are, and something is
+/// unknown. If none is, which no wave brings about, it is 1.
 fn covering(low: bool, rises: bool, falls: bool, high: bool, unknown: bool) -> Value
     ensures { result ≡ cover_of low rises falls high unknown }
 {
-    let steps = StepSet::of(low, rises, falls, high);
-    if steps.is_empty() {
-        Value::One
-    } else {
-        cover(steps, unknown)
-    }
+    cover(StepSet::of(low, rises, falls, high), unknown)
 }
 
-/// The value of an output that stays at one of the bits that it may be at, or U where it may be at
-/// both and something is unknown. Where it may be at none, which no wave brings about, it is 1.
+/// The value of an output that stays at one of the bits that it may be at, or U if it may be at
+/// both and something is unknown. If it may be at none, which no wave brings about, it is 1.
 fn resting(low: bool, high: bool, unknown: bool) -> Value
     ensures { result ≡ resting low high unknown }
 {
@@ -67,8 +62,8 @@ fn own_bits(either: Value) -> Value
     resting(low, high, either.is_unknown())
 }
 
-/// 1 where both what the rise delay reaches and what the fall delay reaches may end in a bit, and 0
-/// where not.
+/// 1 if both what the rise delay reaches and what the fall delay reaches may end in a bit, and 0
+/// if not.
 fn both_end(bit: bool, rise: Value, fall: Value) -> Value
     ensures { result ≡ both_end bit rise fall }
 {
@@ -79,8 +74,8 @@ fn both_end(bit: bool, rise: Value, fall: Value) -> Value
     }
 }
 
-/// The bits that the output may be at where the rise delay is never the shorter one: it comes to 1
-/// only where both windows end in 1.
+/// The bits that the output may be at if the rise delay is never the shorter one: it comes to 1
+/// only if both windows end in 1.
 fn slow_rise_bits(either: Value, both: Value) -> Value
     ensures { result ≡ slow_rise_bits either both }
 {
@@ -88,7 +83,7 @@ fn slow_rise_bits(either: Value, both: Value) -> Value
     resting(low, high, either.is_unknown())
 }
 
-/// Those where the fall delay is never the shorter one: it comes to 0 only where both end in 0.
+/// Those if the fall delay is never the shorter one: it comes to 0 only if both end in 0.
 fn slow_fall_bits(either: Value, both: Value) -> Value
     ensures { result ≡ slow_fall_bits either both }
 {
@@ -96,7 +91,7 @@ fn slow_fall_bits(either: Value, both: Value) -> Value
     resting(low, high, either.is_unknown())
 }
 
-/// What may stay at either bit, and may rise and may fall where that is said.
+/// What may stay at either bit, and may rise and may fall if that is said.
 fn edges(rises: bool, falls: bool) -> Value
     ensures { result ≡ edges rises falls }
 {
@@ -240,7 +235,7 @@ fn evaluated<W: CyclicWave<Item = Value>>(
 }
 
 /// The wave of the output of a gate with two delays, before the output's complement, from the waves
-/// of its pins and the bounds of its delays, in ticks. It fails only where memory runs out.
+/// of its pins and the bounds of its delays, in ticks. It fails only if memory runs out.
 pub fn eval_split<W: CyclicWave<Item = Value>>(
     alloc: Global,
     kind: Kind,

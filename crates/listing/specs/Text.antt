@@ -1,4 +1,4 @@
--- Lines, and what stands of them where memory ran out. A text is the list of its bytes.
+-- Lines, and what stands of them if memory ran out. A text is the list of its bytes.
 use Rattle.std.specs.Prelude.{◌≡◌, ℕ, List, [], ◌∷◌, ◌++◌, codes, decimal}
 use Rattle.std.specs.List.{concat}
 use Rattle.flat_circuit.specs.Name.{Name}

@@ -11,7 +11,7 @@ use flat_circuit::Circuit;
 use scald_base::{Bytes, NoMemory, Refusal};
 
 /// Puts the line of a refused text at the end of `out`: the number and the name of the refusal's
-/// kind, and its line and column. Where memory runs out, a part of the line may stand there.
+/// kind, and its line and column. If memory runs out, a part of the line may stand there.
 #[tactic(auto, unfolding(crate::specs::Answer::refusal_line))]
 pub fn write_refusal(refusal: &Refusal, out: &mut Bytes) -> Result<(), NoMemory>
     ensures ok { OnOk result (out.new ≡ out.old ++ refusal_line refusal.now) }
@@ -33,7 +33,7 @@ pub fn write_refusal(refusal: &Refusal, out: &mut Bytes) -> Result<(), NoMemory>
 }
 
 /// Appends to `out` the line of rounds that do not settle: the net at the place `net`, from
-/// 0, in name order, and the round at the limit. Where memory runs out, a part of the line may
+/// 0, in name order, and the round at the limit. If memory runs out, a part of the line may
 /// stand there.
 #[tactic(auto, unfolding(crate::specs::Answer::unsettled_line))]
 pub fn write_unsettled(c: &Circuit, net: u32, round: u32, out: &mut Bytes) -> Result<(), NoMemory>
@@ -54,7 +54,7 @@ pub fn write_unsettled(c: &Circuit, net: u32, round: u32, out: &mut Bytes) -> Re
 
 /// Puts the line of the numbers of a report at the end of `out`, for a circuit of so many sections:
 /// its bits of nets, of instances with an output and of checkers, the rounds of its base, the tick
-/// from which on its waves hold, and how many faults it has. Where memory runs out, a part of the
+/// from which on its waves hold, and how many faults it has. If memory runs out, a part of the
 /// line may stand there.
 #[tactic(auto, unfolding(crate::specs::Answer::summary_line))]
 pub fn write_summary(

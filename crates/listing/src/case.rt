@@ -77,7 +77,7 @@ fn add_case(out: &mut Bytes, head: CaseHead) -> Result<(), NoMemory>
     )
 }
 
-/// The lines of waves, where the mode shows them.
+/// The lines of waves, if the mode shows them.
 fn add_shown_waves<W: CyclicWave<Item = Value>>(
     out: &mut Bytes,
     c: &Circuit,
@@ -97,7 +97,7 @@ fn add_shown_waves<W: CyclicWave<Item = Value>>(
     }
 }
 
-/// The lines of faults, where the mode shows them.
+/// The lines of faults, if the mode shows them.
 fn add_shown_faults(
     out: &mut Bytes,
     c: &Circuit,
@@ -115,7 +115,7 @@ fn add_shown_faults(
 }
 
 /// Puts the lines of one case at the end of `out`: its own line; then, as the mode says, a line for
-/// the wave of each net, in name order, and a line for each fault, in the order of `faults`. Where
+/// the wave of each net, in name order, and a line for each fault, in the order of `faults`. If
 /// memory runs out, a part of these lines may stand there.
 pub fn write_case<W: CyclicWave<Item = Value>>(
     c: &Circuit,

@@ -8,7 +8,7 @@ use crate::piece::{Piece, add_line};
 use scald_base::{Bytes, NoMemory};
 
 /// Puts the last line of the report at the end of `out`: how many faults there are over all cases,
-/// or that there is none. Where memory runs out, a part of the line may stand there.
+/// or that there is none. If memory runs out, a part of the line may stand there.
 #[tactic(auto, unfolding(crate::specs::End::last_line))]
 pub fn end_report(total: u32, out: &mut Bytes) -> Result<(), NoMemory>
     ensures ok { OnOk result (out.new ≡ out.old ++ last_line total) }

@@ -124,7 +124,7 @@ fn add_place(out: &mut Bytes, c: &Circuit, fault: Fault) -> Result<(), NoMemory>
 }
 
 /// Appends to `out` the kind of a fault, the element that has it and where it was found: its line
-/// in the report without the first word and the line's end. Where memory runs out, a part of this
+/// in the report without the first word and the line's end. If memory runs out, a part of this
 /// text may stand there.
 pub fn write_fault(c: &Circuit, fault: &Fault, out: &mut Bytes) -> Result<(), NoMemory>
     ensures ok { OnOk result (out.new ≡ out.old ++ fault_text c.now fault.now) }
@@ -142,7 +142,7 @@ pub fn write_fault(c: &Circuit, fault: &Fault, out: &mut Bytes) -> Result<(), No
     add_place(out, c, *fault)
 }
 
-/// Appends to `out` what [`write_fault`] does without the element and the space after it. Where
+/// Appends to `out` what [`write_fault`] does without the element and the space after it. If
 /// memory runs out, a part of this text may stand there.
 pub fn write_unnamed_fault(c: &Circuit, fault: &Fault, out: &mut Bytes) -> Result<(), NoMemory>
     ensures ok { OnOk result (out.new ≡ out.old ++ unnamed_fault c.now fault.now) }

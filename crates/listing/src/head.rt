@@ -11,7 +11,7 @@ use flat_circuit::Circuit;
 use scald_base::{AssertSpec, Bytes, NoMemory};
 
 /// Appends to `out` the line with the version of the drawing's language and the period, in ticks.
-/// Where memory runs out, a part of the line may stand there.
+/// If memory runs out, a part of the line may stand there.
 #[tactic(auto, unfolding(crate::specs::Head::period_line))]
 pub fn write_period(c: &Circuit, version: u8, out: &mut Bytes) -> Result<(), NoMemory>
     ensures ok { OnOk result (out.new ≡ out.old ++ period_line version c.now) }
@@ -88,7 +88,7 @@ fn add_stables(out: &mut Bytes, c: &Circuit) -> Result<(), NoMemory>
 /// Puts the head of the report at the end of `out`: the line with the version of the drawing's
 /// language and the period in ticks, the line that counts the bits of nets, of instances with an
 /// output and of checkers, and a line for each net that nothing drives and of which nothing is
-/// asserted, in name order. Where memory runs out, a part of these lines may stand there.
+/// asserted, in name order. If memory runs out, a part of these lines may stand there.
 pub fn begin_report(c: &Circuit, version: u8, out: &mut Bytes) -> Result<(), NoMemory>
     ensures ok { OnOk result (out.new ≡ out.old ++ head version c.now) }
     ensures err { OnErr result (HasPart out.old out.new (head version c.now)) }

@@ -1,5 +1,5 @@
 //! The report on a circuit, line by line: its head, the lines of each case with waves and faults as
-//! the mode asks, and the last line; and the one line that stands in place of a report where a text
+//! the mode asks, and the last line; and the one line that stands in place of a report if a text
 //! is refused, rounds do not settle, or the numbers of a report are asked for alone.
 //!
 //! The layer above composes a report of [`begin_report`], [`write_case`] for each case, and

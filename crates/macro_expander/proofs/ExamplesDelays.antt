@@ -124,7 +124,7 @@ rise_between : plan Buf (use_of (from 5 7) (from 3 9)) ≡ two_delays (3, 9) (5,
 unfolding plan_of
 rise_between = refl
 
--- two delays stay two where they are equal
+-- two delays stay two if they are equal
 equal : plan Buf (use_of (from 1 2) (from 1 2)) ≡ two_delays (1, 2) (1, 2) (1, 2)
 unfolding plan_of
 equal = refl

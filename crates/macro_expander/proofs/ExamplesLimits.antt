@@ -30,7 +30,7 @@ negative b = record b { value = negsuc 0 }
 abbrev limits : Kind → List Binding → Judged Limits
 limits kind given = limits_of 400 kind given
 
--- ---- each is that of its name, and 0 where it is not given
+-- ---- each is that of its name, and 0 if it is not given
 
 of_edges : map (λ kind. limits kind (setup 7 ∷ hold 9 ∷ [])) (SetupHold ∷ RiseFall ∷ [])
     ≡ Ok (Edges 7 9) ∷ Ok (Edges 7 9) ∷ []

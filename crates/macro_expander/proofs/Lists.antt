@@ -40,7 +40,7 @@ pub found_has : {X : Type 0} (P : X → Type 0) (test : X → Bool) (xs : List X
 found_has P test xs None e h = tt
 found_has P test xs (Some b) e h = found_is P test xs b.now h (sym e)
 
--- something is found where something passes the test
+-- something is found if something passes the test
 pub found_any : {X : Type 0} (test : X → Bool) (xs : List X) → is_some (find test xs) ≡ list_any test xs
 found_any test [] = refl
 found_any test (x ∷ xs) = by (test x) (found_any test xs)

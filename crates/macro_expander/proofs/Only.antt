@@ -24,7 +24,7 @@ use Rattle.macro_expander.specs.Numbered.{where_of, pin_of, out_of, instance_of}
 use Rattle.macro_expander.specs.Stands.{Stands, IsCircuitOf}
 use Rattle.macro_expander.proofs.Nets.{Exists}
 
--- lists that are seen alike are the same, where items that are seen alike are
+-- lists that are seen alike are the same, if items that are seen alike are
 same_by : {X Y : Type 0} (P : X → Type 0) (f : X → Y) → ((x y : X) → P x → P y → f x ≡ f y → x ≡ y) →
     (xs ys : List X) → All P xs → All P ys → map f xs ≡ map f ys → xs ≡ ys
 same_by P f one [] [] a b e = refl

@@ -37,7 +37,7 @@ unknown true true = refl
 unknown true false = refl
 unknown false b = refl
 
--- where those from a place on are not known, all are not
+-- if those from a place on are not known, all are not
 pub not_all : (known : List ℕ → Bool) (i : ℕ) (xs : List Assign) → are_of known (map assignment_of (drop i xs)) ≡ false → are_of known (map assignment_of xs) ≡ false
 not_all known zero xs h = h
 not_all known (suc i) [] h = h

@@ -289,7 +289,7 @@ module _ (P : Place → Type 0) where
       subst (AllByRecursion (IsInstanceAt P)) (sym breaks.is_numbered.instances) named in
       rule_at breaks.numbered r.place r.kind (every_mapped (IsInstanceAt P) (instance_of breaks.numbered.names) breaks.numbered.instances numbered) breaks.broken
 
-  -- Where expansion is refused, or a rule is broken, something of the drawing stands.
+  -- If expansion is refused, or a rule is broken, something of the drawing stands.
   pub stop_at : (d : Drawing) (r : Refusal) → EachPlace P d → IsStopOf d (Refused r) → P r.place
   stop_at d r a (inl e) = subst (IsOutcomeAt P) e (flat_at d a)
   stop_at d r a (inr breaks) = breaks_at d r a breaks
@@ -325,6 +325,6 @@ module _ (P : Place → Type 0) where
   unfolding cases_of
   all_cases_at s d a = unless_many_at (slice_get d.cases most_cases) _ (every_get (IsCaseAt P) d.cases most_cases a.cases) (cases_behind_at s [] d.cases a.cases)
 
-  -- Where its cases are refused, too.
+  -- If its cases are refused, too.
   pub cases_at : (s : State) (d : Drawing) (r : Refusal) → EachPlace P d → cases_of s d ≡ Err r → P r.place
   cases_at s d r a e = subst IsResultAt e (all_cases_at s d a)

@@ -50,7 +50,7 @@ wire_act w scope s =
 
 -- ---- uses
 
--- A macro's body is too deep where no body may go below.
+-- A macro's body is too deep if no body may go below.
 abbrev pub expanded : Setting → Option (Macro → Act) → Macro → List Binding → UseStatement → Act
 expanded setting None m given u scope s = Fails TooDeep u.place
 expanded setting (Some body) m given u scope s =
@@ -111,7 +111,7 @@ abbrev mutual
   otherwise_act setting body no_else scope s = Gives tt s
   otherwise_act setting body (else_ ss) scope s = statements_act setting body ss scope s
 
--- what a macro's body does where uses may go so many levels deeper: where none, there is no body
+-- what a macro's body does if uses may go so many levels deeper: if none, there is no body
 unfoldable pub body_at : Setting → ℕ → Option (Macro → Act)
 body_at setting zero = None
 body_at setting (suc n) = Some (λ m. statements_act setting (body_at setting n) m.body)
@@ -154,7 +154,7 @@ setting_of d consts = record {
   macros = d.macros;
 }
 
--- a drawing's statements, where its constants have these values
+-- a drawing's statements, if its constants have these values
 abbrev pub body_act : Drawing → List Binding → State → Outcome (Unit {0})
 body_act d consts s =
     let setting = setting_of d consts in

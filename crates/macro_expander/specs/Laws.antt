@@ -13,11 +13,11 @@ use Rattle.macro_expander.specs.Cases.{cases_of}
 abbrev pub IsPlaceIn : Drawing → Place → Type 0
 IsPlaceIn d place = (test : Place → Bool) → EachPlace (λ p. test p ≡ true) d → test place ≡ true
 
--- Where expansion is refused, or a rule of circuits is broken, something of the drawing stands.
+-- If expansion is refused, or a rule of circuits is broken, something of the drawing stands.
 abbrev pub StopsAtPlaces : Type 0
 StopsAtPlaces = (d : Drawing) (r : Refusal) → IsStopOf d (Refused r) → IsPlaceIn d r.place
 
--- So it does where its cases are refused.
+-- So it does if its cases are refused.
 abbrev pub CasesStopAtPlaces : Type 0
 CasesStopAtPlaces =
     (d : Drawing) (s : State) (r : Refusal) → cases_of s d ≡ Err r → IsPlaceIn d r.place

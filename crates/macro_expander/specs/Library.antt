@@ -21,7 +21,7 @@ setting_in l = record {
   macros = macros_in l;
 }
 
--- each name leads to the first macro of that name, where there are many
+-- each name leads to the first macro of that name, if there are many
 abbrev pub LeadToMacros : Library → Type 0
 LeadToMacros l = LeadWhereMany (λ (m : MacroDef). m.name) l.places.entries l.macros.now
 

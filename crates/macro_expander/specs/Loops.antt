@@ -15,12 +15,12 @@ abbrev pub upwards : ℤ → ℕ → List ℤ
 upwards first zero = []
 upwards first (suc n) = first ∷ upwards (first +ℤ pos 1) n
 
--- how many there are, where any are
+-- how many there are, if any are
 abbrev pub count_of : ℤ → ℕ
 count_of (pos n) = n
 count_of (negsuc n) = 0
 
--- from the first to the last, both among them: none where the first is greater
+-- from the first to the last, both among them: none if the first is greater
 abbrev pub values_between : ℤ → ℤ → List ℤ
 values_between first last = upwards first (count_of ((last +ℤ pos 1) -ℤ first))
 

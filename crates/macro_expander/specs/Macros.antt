@@ -71,7 +71,7 @@ inside_of consts m given =
     judging (shapes_of (params ++ consts) m.outs) (λ outs.
     Ok (record { env = params ++ consts; ins = ins; outs = outs }))))
 
--- so many bits: these, where they are so many, and one bit again and again
+-- so many bits: these, if they are so many, and one bit again and again
 abbrev pub repeated : {B : Type 0} → List B → ℕ → Option (List B)
 repeated (b ∷ []) n = Some (replicate n b)
 repeated _ n = None

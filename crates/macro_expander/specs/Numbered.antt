@@ -40,7 +40,7 @@ where_of names (Constant b) = Fixed b
 abbrev pub bit_of : List Name → BitRef → Bit
 bit_of names b = record { target = where_of names b.target; inverted = b.inverted }
 
--- a bit complemented where a minus stands before it
+-- a bit complemented if a minus stands before it
 abbrev pub turned_ref : Bool → BitRef → BitRef
 turned_ref minus b = record b { inverted = if minus then not b.inverted else b.inverted }
 
@@ -217,7 +217,7 @@ BitAt old new (Err stop) o = Failed stop o
 abbrev pub kept_with : {B : Type 0} → List B → List B → List B
 kept_with kept more = if nat_le (length kept) widest then kept ++ more else kept
 
--- What is kept of all bits: all, where they are no more than a connection may have, and else more
+-- What is kept of all bits: all, if they are no more than a connection may have, and else more
 -- than that.
 pub record Keeps {B : Type 0} (kept all : List B) : Type 0 where
   pub narrow : length kept ≤ widest → kept ≡ all
@@ -312,7 +312,7 @@ pub record Gathered {X : Type 0} (step : X → State → Outcome (List Bit)) (st
   pub grows : Grows start e
   pub exist : All (BitExists (nets_in e)) bits
 
--- The same, where of the bits so far only more than a connection may have are kept.
+-- The same, if of the bits so far only more than a connection may have are kept.
 pub record GatheredFront {X : Type 0} (step : X → State → Outcome (List Bit)) (start : Expansion)
     (want : Outcome (List Bit)) (rest : List X) (kept : List BitRef) (e : Expansion) : Type 0 where
   pub all : List BitRef
@@ -334,7 +334,7 @@ pub record Went {X : Type 0} (step : X → State → Outcome (Unit {0})) (start 
   pub agrees : each step rest (state_of e) ≡ want
   pub grows : Grows start e
 
--- the same, where no net is new
+-- the same, if no net is new
 pub record WentOn {X : Type 0} (step : X → State → Outcome (Unit {0})) (start : Expansion)
     (want : Outcome (Unit {0})) (rest : List X) (e : Expansion) : Type 0 where
   pub went : Went step start want rest e

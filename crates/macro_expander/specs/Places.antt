@@ -30,7 +30,7 @@ pub record LeadTo {X : Type 0} (name_of : X → List ℕ) (entries : List (Vec �
   pub first : (name : List ℕ) → bit_at_place items (lookup (λ k. bytes_eq name k.items) entries)
       ≡ find (λ x. bytes_eq (name_of x) name) seen
 
--- The same of all items, where they are many. Few are found without their places.
+-- The same of all items, if they are many. Few are found without their places.
 pub record LeadWhereMany {X : Type 0} (name_of : X → List ℕ) (entries : List (Vec ℕ × ℕ))
     (items : List X) : Type 0 where
   pub many : few < length items → LeadTo name_of entries items items

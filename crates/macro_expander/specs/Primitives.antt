@@ -116,7 +116,7 @@ written_delay env None = Ok None
 written_delay env (Some pair) =
     judging (valued env pair.0) (λ min. judging (valued env pair.1) (λ max. Ok (Some (min, max))))
 
--- the bounds of every delay of an instance bit, and its two delays where it has two
+-- the bounds of every delay of an instance bit, and its two delays if it has two
 abbrev pub Delays : Type 0
 Delays = DelayBounds × Option Split
 
@@ -127,14 +127,14 @@ split_of rise fall =
     judging (delay_within longest_split fall.0 fall.1) (λ f.
     Ok (record { rise = r; fall = f })))
 
--- A checker has no delay. Where a fall delay stands beside a delay, that one is the rise delay.
+-- A checker has no delay. If a fall delay stands beside a delay, that one is the rise delay.
 abbrev pub delays_of : Option (ℤ × ℤ) → Option (ℤ × ℤ) → Judged Delays
 delays_of None fall = Ok (record { min = 0; max = 0 }, None)
 delays_of (Some delay) None = judging (delay_between delay.0 delay.1) (λ d. Ok (d, None))
 delays_of (Some rise) (Some fall) =
     judging (split_of rise fall) (λ s. Ok (either_delay s, Some s))
 
--- the value of a parameter, 0 where the use gives none
+-- the value of a parameter, 0 if the use gives none
 abbrev pub given_or_zero : List Binding → List ℕ → ℤ
 given_or_zero given name = option_map_or (λ b. b.value) (find (is_named name) given) (pos 0)
 
@@ -177,7 +177,7 @@ are_connected kind u =
 abbrev pub same_truth : Bool → Bool → Bool
 same_truth a b = if a then b else not b
 
--- a delay exactly where the kind has an output, and two only where the kind may have two
+-- a delay exactly if the kind has an output, and two only if the kind may have two
 abbrev pub takes_delays : Kind → UseStatement → Bool
 takes_delays kind u =
     same_truth (is_some u.delay) (has_output kind) && (not (is_some (fall_of u)) || may_split kind)

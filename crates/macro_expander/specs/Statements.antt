@@ -69,7 +69,7 @@ pub record IsOneTooMany (old : Expansion) (place : Place) (stop : Stop) : Type 0
   pub full : nat_lt old.statements most_statements ≡ false
   pub is : stop ≡ Refused (record { kind = TooMany; place = place })
 
--- the statements after ELSE, where ELSE is written
+-- the statements after ELSE, if ELSE is written
 abbrev pub behind_else : Otherwise → Statements
 behind_else no_else = nil
 behind_else (else_ ss) = ss

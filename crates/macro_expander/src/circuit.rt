@@ -21,7 +21,7 @@ pub const DEEPEST: u32 = 64;
 /// The circuit of a drawing: its constants, then its statements in the order of the text, each
 /// macro's body at its uses and each FOR's body once for each value, and then the circuit's own
 /// rules. A refusal of a constant stands at its word CONST, one of expansion at the statement that
-/// is expanded, and that of a rule at the statement whose bit breaks it; `NoMemory` comes where
+/// is expanded, and that of a rule at the statement whose bit breaks it; `NoMemory` comes if
 /// memory runs out.
 pub fn expand(alloc: Global, drawing: &Drawing) -> Result<Circuit, Stop>
     requires { IsWellFormed (drawing_of drawing.now) }
@@ -35,7 +35,7 @@ pub fn expand(alloc: Global, drawing: &Drawing) -> Result<Circuit, Stop>
 }
 
 /// The statements of a drawing, expanded as `expand` does, or their first refusal. Nothing of the
-/// drawing is needed after it: where memory counts, the drawing goes before `finish` is called.
+/// drawing is needed after it: if memory counts, the drawing goes before `finish` is called.
 pub fn expanded(alloc: Global, drawing: &Drawing) -> Result<Expansion, Stop>
     requires { IsWellFormed (drawing_of drawing.now) }
     ensures { MatchResult result (IsExpansionOf (drawing_of drawing.now))

@@ -112,7 +112,7 @@ fn keep(bits: &mut Bits, more: &[BitRef]) -> Result<(), NoMemory>
 }
 
 /// The bits of terms, from left to right. One term, as most connections have, needs no list of its
-/// own. Where they are too many for a connection no more are kept than show it, and the terms that
+/// own. If they are too many for a connection no more are kept than show it, and the terms that
 /// are left are asked for their refusals alone.
 fn terms_bits(
     expansion: &mut Expansion,

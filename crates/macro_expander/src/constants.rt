@@ -11,7 +11,7 @@ use scald_base::{List, NoMemory, Stop};
 use std::alloc::Global;
 
 /// The constants with their values, each evaluated with those before it; or the refusal of the
-/// first that has no value, at its word CONST. `NoMemory` comes where memory runs out.
+/// first that has no value, at its word CONST. `NoMemory` comes if memory runs out.
 pub fn constants(alloc: Global, consts: &Assigns, places: &Places) -> Result<Env, Stop>
     requires { length places.now ≡ length consts.now }
     ensures { ConstsAt result (map assignment_of consts.now) places.now }
@@ -26,7 +26,7 @@ pub fn constants(alloc: Global, consts: &Assigns, places: &Places) -> Result<Env
     Ok(known)
 }
 
-/// A copy of the constants. `NoMemory` comes where memory runs out.
+/// A copy of the constants. `NoMemory` comes if memory runs out.
 pub fn copied_env(alloc: Global, env: &Env) -> Result<Env, NoMemory>
     ensures { IfOk result (λ copy. copy ≡ env.now) }
 {

@@ -101,8 +101,8 @@ fn parameters_by(
     Ok(env)
 }
 
-/// The parameters of a macro with their values, where a use gives these: a default names constants
-/// alone. The first that has no value is refused at this place; `NoMemory` comes where memory runs
+/// The parameters of a macro with their values, if a use gives these: a default names constants
+/// alone. The first that has no value is refused at this place; `NoMemory` comes if memory runs
 /// out.
 pub fn parameters(
     alloc: Global,
@@ -137,10 +137,10 @@ fn shapes(alloc: Global, env: &Env, formals: &Formals, place: Place) -> Result<L
     Ok(shapes)
 }
 
-/// What a macro's body is expanded with where a use gives these values: the defaults of the
+/// What a macro's body is expanded with if a use gives these values: the defaults of the
 /// parameters that are not given, which name no parameter but may name constants, and then the
 /// formals' ranges. The first of these that has no value, or is too wide, is refused at this place;
-/// `NoMemory` comes where memory runs out.
+/// `NoMemory` comes if memory runs out.
 #[tactic(auto, unfolding(crate::specs::Macros::inside_of))]
 pub fn inside_of(
     alloc: Global,
@@ -159,7 +159,7 @@ pub fn inside_of(
     Ok(Inside { env, ins, outs })
 }
 
-/// Whether each is a parameter of the macro and none comes twice, where they are few.
+/// Whether each is a parameter of the macro and none comes twice, if they are few.
 fn are_few_parameters(definition: &MacroDef, params: &Assigns) -> bool
     ensures { result ≡ are_of (has_parameter (macro_of definition.now))
         (map assignment_of params.now) }
@@ -230,7 +230,7 @@ fn fits_formals(definition: &MacroDef, statement: &UseStmt) -> bool
 
 /// What a use gives to a macro's parameters, or its refusal: a delay, a parameter that is not the
 /// macro's or comes twice, the first fault of an expression, or a wrong number of connections or a
-/// mark. `NoMemory` comes where memory runs out.
+/// mark. `NoMemory` comes if memory runs out.
 #[tactic(auto, unfolding(crate::specs::Macros::given_to))]
 pub fn given_to(
     alloc: Global,

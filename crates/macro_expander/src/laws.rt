@@ -3,12 +3,12 @@
 
 ghost use Rattle.macro_expander.specs.Laws.{CasesStopAtPlaces, StopsAtPlaces};
 
-/// Where expansion is refused, or a rule of circuits is broken, something of the drawing stands.
+/// If expansion is refused, or a rule of circuits is broken, something of the drawing stands.
 pub fn stops_at_places()
     ensures { StopsAtPlaces }
 {}
 
-/// Where the cases of a drawing are refused, something of it stands.
+/// If the cases of a drawing are refused, something of it stands.
 pub fn cases_stop_at_places()
     ensures { CasesStopAtPlaces }
 {}

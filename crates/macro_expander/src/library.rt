@@ -23,7 +23,7 @@ pub struct Library<'a> {
     pub consts: Env,
     /// Its macros, in the order of the text.
     pub macros: &'a MacroDefs,
-    /// The place of each name's first macro, where there are many.
+    /// The place of each name's first macro, if there are many.
     pub places: IndexMap<Vec<u8>, usize>,
 }
 
@@ -37,7 +37,7 @@ impl Called for MacroDef {
 
 impl<'a> Library<'a> {
     /// The library of these macros, in a drawing of this version, with a period of so many ticks
-    /// and these constants. `NoMemory` comes where memory runs out.
+    /// and these constants. `NoMemory` comes if memory runs out.
     pub fn of(
         alloc: Global,
         version: u8,

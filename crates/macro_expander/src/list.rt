@@ -58,7 +58,7 @@ impl<T> Row<T> {
 }
 
 impl<T: Drop> Row<T> {
-    /// Appends an item. Where memory runs out the row is as before, and the item is dropped.
+    /// Appends an item. If memory runs out the row is as before, and the item is dropped.
     pub fn push(&mut self, item: T) -> Result<(), NoMemory>
         ensures ok { OnOk result (self.new ≡ self.old ++ item ∷ []) }
         ensures err { OnErr result (self.new ≡ self.old) }
@@ -68,7 +68,7 @@ impl<T: Drop> Row<T> {
     }
 }
 
-/// A copy of the items. `NoMemory` comes where memory runs out.
+/// A copy of the items. `NoMemory` comes if memory runs out.
 pub fn copied<T: Copy>(alloc: Global, items: &[T]) -> Result<List<T>, NoMemory>
     ensures { IfOk result (λ copies. copies ≡ items.now) }
 {

@@ -44,7 +44,7 @@ pub(crate) fn assigned(
 }
 
 /// The values that a use gives, in the order of its text. The first that has none is refused at
-/// this place; `NoMemory` comes where memory runs out.
+/// this place; `NoMemory` comes if memory runs out.
 pub fn values_given(alloc: Global, params: &Assigns, env: &Env, place: Place) -> Result<Env, Stop>
     ensures { JudgedAt place result (spec_values_given env.now (map assignment_of params.now)) }
 {
@@ -77,7 +77,7 @@ pub(crate) fn find_given<'a>(given: &'a Env, name: &[u8]) -> Option<&'a Binding>
         .find(|binding| binding.name.as_slice() == name)
 }
 
-/// The value of a parameter, 0 where the use gives none.
+/// The value of a parameter, 0 if the use gives none.
 pub(crate) fn value_given(given: &Env, name: &[u8]) -> i64
     ensures { result ≡ given_or_zero given.now name.now }
 {

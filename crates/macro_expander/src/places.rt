@@ -38,7 +38,7 @@ fn all_places<T: Called>(alloc: Global, items: &[T]) -> Result<IndexMap<Vec<u8>,
     Ok(places)
 }
 
-/// The place of the first item of each name where there are many items, and nothing where there are
+/// The place of the first item of each name if there are many items, and nothing if there are
 /// few.
 pub(crate) fn places<T: Called>(
     alloc: Global,

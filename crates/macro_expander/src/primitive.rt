@@ -21,14 +21,14 @@ use std::alloc::Global;
 pub struct Plan {
     /// The bounds of the delay, or from the least to the greatest of both.
     pub delay: Delay,
-    /// The bounds of the rise delay and of the fall delay, where two are written.
+    /// The bounds of the rise delay and of the fall delay, if two are written.
     pub split: Option<Split>,
     pub limits: Limits,
 }
 
 const LONGEST_DELAY: u16 = 4095;
 
-/// The longest rise delay and fall delay, where two are written.
+/// The longest rise delay and fall delay, if two are written.
 const LONGEST_SPLIT: u16 = 255;
 
 /// The primitive of a name.
@@ -107,7 +107,7 @@ pub(crate) fn marks(connections: &Conns) -> usize
     connections.as_slice().iter().filter(|c| c.hold).count()
 }
 
-/// A delay's bounds, which are refused where the least is negative or above the greatest, or the
+/// A delay's bounds, which are refused if the least is negative or above the greatest, or the
 /// greatest is above the longest.
 fn delay_within(longest: u16, min: i64, max: i64) -> Result<Delay, RefusalKind>
     requires { longest ≤ 4095 }
@@ -138,7 +138,7 @@ fn both_values(bounds: &(Expr, Expr), env: &Env) -> Result<Option<(i64, i64)>, R
     Ok(Some((min, max)))
 }
 
-/// The values of the delay of a use, where one is written, or why one has none.
+/// The values of the delay of a use, if one is written, or why one has none.
 pub fn written_delay(
     delay: &Option<(Expr, Expr)>,
     env: &Env,
@@ -173,7 +173,7 @@ fn split_of(rise: (i64, i64), fall: (i64, i64)) -> Result<Split, RefusalKind>
     Ok(Split { rise, fall })
 }
 
-/// The bounds of all delays, and the two delays where two are written, or why they are refused.
+/// The bounds of all delays, and the two delays if two are written, or why they are refused.
 pub fn delays_of(
     delay: Option<(i64, i64)>,
     fall: Option<(i64, i64)>,
@@ -190,7 +190,7 @@ pub fn delays_of(
     }
 }
 
-/// Whether the kind takes the delays of a use: none where it has no output, else one, or two where
+/// Whether the kind takes the delays of a use: none if it has no output, else one, or two if
 /// it may have two.
 fn takes_delays(kind: Kind, statement: &UseStmt) -> bool
     ensures { result ≡ spec_takes_delays kind (use_of statement.now) }

@@ -59,7 +59,7 @@ fn ends(range: &RangeExpr, env: &Env) -> Result<(i64, i64), RefusalKind>
     Ok((first, last))
 }
 
-/// The first and the last number of a range, where one is written, or why it is refused.
+/// The first and the last number of a range, if one is written, or why it is refused.
 pub fn written_ends(range: &WrittenRange, env: &Env) -> Result<Option<(i64, i64)>, RefusalKind>
     ensures { result ≡ spec_written_ends env.now (written_range_of range.now) }
 {
@@ -77,7 +77,7 @@ fn zero(alloc: Global, place: Place) -> Result<Indices, Stop>
     Ok(numbers)
 }
 
-/// The numbers of a range with these ends, or 0 where none is written.
+/// The numbers of a range with these ends, or 0 if none is written.
 pub(crate) fn numbers(
     alloc: Global,
     ends: Option<(i64, i64)>,

@@ -92,7 +92,7 @@ impl Formals {
         }
     }
 
-    /// These formals. `NoMemory` comes where memory runs out.
+    /// These formals. `NoMemory` comes if memory runs out.
     pub fn of(alloc: Global, items: Row<Bound>) -> Result<Formals, NoMemory>
         requires { All HasRun items }
         ensures { IfOk result (λ formals. formals ≡ items) }
@@ -145,7 +145,7 @@ impl Scope {
         }
     }
 
-    /// The whole text of a label. `NoMemory` comes where memory runs out.
+    /// The whole text of a label. `NoMemory` comes if memory runs out.
     pub fn labelled(&self, alloc: Global, label: &[u8]) -> Result<Bytes, NoMemory>
         ensures { IfOk result (λ whole. whole ≡ self.now.path ++ label.now ++ self.now.suffix) }
     {

@@ -25,7 +25,7 @@ use std::alloc::Global;
 /// The most statements that may be reached.
 const MOST_STATEMENTS: u32 = 262_144;
 
-/// Counts a statement that is reached, or refuses it where it is one too many.
+/// Counts a statement that is reached, or refuses it if it is one too many.
 fn count(expansion: &mut Expansion, place: Place) -> Result<(), Stop>
     ensures reached { OnOk result (Reached expansion.old expansion.new) }
     ensures refused { IfErr result (IsOneTooMany expansion.old place) }

@@ -38,7 +38,7 @@ fn suffix(alloc: Global, around: &[u8], value: i64) -> Result<Bytes, NoMemory>
     Ok(suffix)
 }
 
-/// Puts copies of bindings after others. `NoMemory` comes where memory runs out.
+/// Puts copies of bindings after others. `NoMemory` comes if memory runs out.
 pub fn add_bindings(alloc: Global, env: &mut Env, more: &[Binding]) -> Result<(), NoMemory>
     ensures { OnOk result (env.new ≡ env.old ++ more.now) }
 {
@@ -58,7 +58,7 @@ fn env_in_turn(alloc: Global, around: &[Binding], var: &[u8], value: i64) -> Res
     Ok(env)
 }
 
-/// The scope of a FOR's body for a value of its variable. `NoMemory` comes where memory runs out.
+/// The scope of a FOR's body for a value of its variable. `NoMemory` comes if memory runs out.
 pub fn in_turn(
     alloc: Global,
     around: &Scope,
@@ -75,7 +75,7 @@ pub fn in_turn(
     })
 }
 
-/// The same scope for another value: what is around is not copied again. `NoMemory` comes where
+/// The same scope for another value: what is around is not copied again. `NoMemory` comes if
 /// memory runs out.
 pub fn turn_to(
     alloc: Global,

@@ -122,7 +122,7 @@ low_pulses = refl
 
 -- ---- what counts for a parameter
 
--- high pulses of two slots where three are asked for, and low ones of six where seven are
+-- high pulses of two slots if three are asked for, and low ones of six if seven are
 abbrev wider : Instance
 wider = checker MinPulse (Pulses 3 7) (pin 0 ∷ [])
 

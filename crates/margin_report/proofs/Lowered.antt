@@ -35,7 +35,7 @@ module _ (c : Circuit) (cases : List Case) (one : Case) (k : ℕ) (j : Instance)
   own_some : (value : ℕ) (fault : Fault) → own value ≡ Some fault → faults_with c (one ∷ []) k j parameter value ≡ (one.listed.number, fault) ∷ []
   own_some value fault is = rw is refl
 
-  -- a value fits all cases where it fits those before and the one has no fault
+  -- a value fits all cases if it fits those before and the one has no fault
   fits_all : (value : ℕ) → fits c cases k j parameter value ≡ true → own value ≡ None → fits c all k j parameter value ≡ true
   fits_all value fitting none =
       fits_without c k j parameter all value
@@ -72,7 +72,7 @@ module _ (c : Circuit) (cases : List Case) (one : Case) (k : ℕ) (j : Instance)
   abbrev most : ℕ
   most = spare (period c.header) j.limits parameter
 
-  -- ---- what was true stays true where the one has no fault with so much more
+  -- ---- what was true stays true if the one has no fault with so much more
 
   still_greatest : (more : ℕ) → IsGreatest c cases k j parameter more → own (w + more) ≡ None → IsGreatest c all k j parameter more
   still_greatest more greatest none = record {
@@ -144,7 +144,7 @@ module _ (c : Circuit) (cases : List Case) (one : Case) (k : ℕ) (j : Instance)
         | inr within ↦ within
       ]
 
-  -- ---- so each is the margin over all of them, where the one has these waves
+  -- ---- so each is the margin over all of them, if the one has these waves
 
   module _ (ws : Waves) (here : one.waves ≡ ws) (some : 1 ≤ period c.header) where
     is_margin : (m : Margin) → IsTrueOf c all k j parameter m → m ≡ margin c all k j parameter

@@ -11,7 +11,7 @@ use Rattle.margin_report.specs.declared.margin.Margin.{Margin}
 use Rattle.margin_report.specs.declared.margin.Margin.TheVariants.{Fault as Faulty, Limit, Next}
 use Rattle.margin_report.specs.Margin.{faults_with, fits, margin, spare, written}
 
--- Where a value fits, so does each smaller one: where one does not, no greater one does.
+-- If a value fits, so does each smaller one: if one does not, no greater one does.
 abbrev pub FittingIsMonotone : Type 0
 FittingIsMonotone =
     (c : Circuit) (cases : List Case) (k : ℕ) (j : Instance) (parameter : Parameter)

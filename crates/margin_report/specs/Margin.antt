@@ -60,7 +60,7 @@ AreWithin p limits Hold = setup_of limits + hold_of limits ≤ p
 AreWithin p limits High = high_of limits ≤ p
 AreWithin p limits Low = low_of limits ≤ p
 
--- by how much more the value could be, where the written one fits
+-- by how much more the value could be, if the written one fits
 abbrev pub more_in : Margin → Option ℕ
 more_in Faulty = None
 more_in (Limit more) = Some more
@@ -72,7 +72,7 @@ IsBelow margin most = IfSome (more_in margin) (λ more. more ≤ most)
 
 -- ---- fitting
 
--- The fault that checker k has in these waves where a parameter has this value and the other is as
+-- The fault that checker k has in these waves if a parameter has this value and the other is as
 -- it is written. The width of high pulses has the faults of high pulses alone, and that of low ones
 -- those of low ones.
 abbrev pub fault_with : Circuit → Waves → ℕ → Instance → Parameter → ℕ → Option Fault

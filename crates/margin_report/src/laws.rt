@@ -9,7 +9,7 @@ pub fn values_are_tried_as_written()
     ensures { TriedAsWritten }
 {}
 
-/// Where a value of a parameter does not fit, no greater one does.
+/// If a value of a parameter does not fit, no greater one does.
 pub fn fitting_is_monotone()
     ensures { FittingIsMonotone }
 {}

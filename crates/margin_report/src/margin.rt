@@ -31,7 +31,7 @@ pub enum Margin {
 }
 
 impl Margin {
-    /// By how much more the value could be, in ticks; `None` exactly where the written one does not
+    /// By how much more the value could be, in ticks; `None` exactly if the written one does not
     /// fit.
     pub fn more(self) -> Option<u16>
         ensures { result ≡ more_in self }

@@ -44,7 +44,7 @@ impl Replier for MarginProgram {
 /// Reads a drawing and writes by how much more each of its checkers may ask for: a line for each
 /// parameter of each bit of a checker, in the order of expansion. Its name alone asks for it.
 ///
-/// `Done` comes where the drawing is accepted and its waves settle, whether there are faults or
+/// `Done` comes if the drawing is accepted and its waves settle, whether there are faults or
 /// not. Why a drawing is refused, or which net does not settle, is written as `verify` has it. All
 /// of the answer is made before the first byte of it is written.
 pub fn margin_main<S: Source, K: Sink>(
@@ -69,7 +69,7 @@ pub fn margin_main<S: Source, K: Sink>(
     ensures loopless { (text : List ℕ) → AreTold margins words.now (S.left source.old) text →
         SettlesLoopless text result }
 
-    // A value is tried as if it were written; where one does not fit, no greater one does; and a
+    // A value is tried as if it were written; if one does not fit, no greater one does; and a
     // margin is what its line says.
     ensures as_written { TriedAsWritten }
     ensures monotone { FittingIsMonotone }

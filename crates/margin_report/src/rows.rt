@@ -75,7 +75,7 @@ pub fn unbounded(alloc: Global, c: &Circuit) -> Result<Rows, NoMemory>
     Ok(found)
 }
 
-/// A margin over one case more. Most cases leave a margin as it is, which one check tells.
+/// A margin over one case more. Most cases leave a margin as it is, which one check shows.
 fn lowered<W: CyclicWave<Item = Value>>(
     alloc: Global,
     c: &Circuit,

@@ -39,7 +39,7 @@ pub fn spare(period: u16, limits: Limits, parameter: Parameter) -> u16
     }
 }
 
-/// The fault that a checker has in these waves, where a parameter is so much more than it is
+/// The fault that a checker has in these waves, if a parameter is so much more than it is
 /// written and the other as it is.
 pub fn fault_with<W: CyclicWave<Item = Value>>(
     alloc: Global,
@@ -77,7 +77,7 @@ pub fn fault_with<W: CyclicWave<Item = Value>>(
     }
 }
 
-/// By how much more a checker that fits as it is written stops fitting, where with so much more it
+/// By how much more a checker that fits as it is written stops fitting, if with so much more it
 /// has this fault: found by halves, since what does not fit fits no better with more. The answer is
 /// how much more still fits, and the fault with one more.
 pub fn stop_before<W: CyclicWave<Item = Value>>(

@@ -1,4 +1,4 @@
--- Which signals keep a `.C` assertion, where each edge moves by itself in its region. The signals
+-- Which signals keep a `.C` assertion, if each edge moves by itself in its region. The signals
 -- were worked out on paper; a step into tick t lies in slot t.
 use Rattle.std.proofs.Common.{[], ◌∷◌, refl}
 use Rattle.scald_base.specs.Clock.{back}

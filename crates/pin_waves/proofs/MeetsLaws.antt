@@ -149,7 +149,7 @@ twice false = refl
 apart_bits : (b to : Bool) → b ≡ to → b ≡ not to → ⊥
 apart_bits b to is isnt = absurd (grind (arith, is, isnt))
 
--- where it leaves a bit, its other edge has the slot in its region
+-- if it leaves a bit, its other edge has the slot in its region
 own_region : (h : Header) (c : ClockSpec) (early late : ℕ) (to : Bool) (t : ℕ) → 0 < period h →
     1 ≤ t →
     ideal_signal c h (t - 1) ≡ not to → ideal_signal c h t ≡ to →

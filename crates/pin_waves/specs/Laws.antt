@@ -38,7 +38,7 @@ abbrev pub IdealKeepsPrecision : Type 0
 IdealKeepsPrecision = (h : Header) (c : ClockSpec) (n : ℕ) → 0 < period h →
     Meets h (Precision c) n (ideal_signal c h)
 
--- Where each edge moves by itself it does, if no two regions share a slot.
+-- If each edge moves by itself it does, if no two regions share a slot.
 abbrev pub IdealKeepsClock : Type 0
 IdealKeepsClock = (h : Header) (c : ClockSpec) (n : ℕ) → 0 < period h → ¬ EdgesOverlap h (Clock c) →
     Meets h (Clock c) n (ideal_signal c h)

@@ -1,4 +1,4 @@
--- The wave of a receiving pin: its net's, late by the wire, and complemented where the pin is
+-- The wave of a receiving pin: its net's, late by the wire, and complemented if the pin is
 -- marked so.
 use Rattle.std.specs.Prelude.{◌≡◌, ℕ, ◌+◌, ◌-◌, ◌<◌, ◌≤◌, Bool, if◌then◌else◌}
 use Rattle.scald_base.specs.Time.{Bounds}
@@ -13,12 +13,12 @@ abbrev pub pin_wave : Wave Value → Bounds → Bool → Wave Value
 pin_wave net wire inverted =
     let late = moved values net wire in if inverted then flipped values late else late
 
--- y shows x, so many ticks later, complemented where asked, as far as the ticks from u - 1 to m - 1
+-- y shows x, so many ticks later, complemented if asked, as far as the ticks from u - 1 to m - 1
 abbrev pub ShowsPin : ℕ → Bool → ℕ → ℕ → Signal → Signal → Type 0
 ShowsPin delay inverted u m x y =
     (t : ℕ) → u ≤ t + 1 → t < m → y t ≡ turned inverted (x (t - delay))
 
--- Where the one wave permits a net from tick v on, the other permits each pin that shows it, by a
+-- If the one wave permits a net from tick v on, the other permits each pin that shows it, by a
 -- wire delay within the bounds, from that delay later on, and so from v + max on.
 abbrev pub KeepsPin : Wave Value → Wave Value → Bounds → Bool → Type 0
 KeepsPin net pin wire inverted =

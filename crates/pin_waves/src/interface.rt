@@ -133,14 +133,14 @@ pub fn wide_wave<W: CyclicWave<Item = Value>>(
     wave.folded(alloc)
 }
 
-/// The value of a net that is 1 for ever where `one` holds, and else 0.
+/// The value of a net that is 1 for ever if `one` holds, and else 0.
 fn level(one: bool) -> Value
     ensures { result ≡ (if one then One else Zero) }
 {
     if one { Value::One } else { Value::Zero }
 }
 
-/// The wave of a net that is 1 for ever where `one` holds, and else 0.
+/// The wave of a net that is 1 for ever if `one` holds, and else 0.
 pub fn constant_wave<W: CyclicWave<Item = Value>>(
     alloc: Global,
     h: &Header,

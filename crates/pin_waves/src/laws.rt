@@ -23,7 +23,7 @@ pub fn ideal_keeps_precision()
     ensures { IdealKeepsPrecision }
 {}
 
-/// The ideal clock keeps what a `.C` asserts of it, where no two regions of its edges share a slot.
+/// The ideal clock keeps what a `.C` asserts of it, if no two regions of its edges share a slot.
 pub fn ideal_keeps_clock()
     ensures { IdealKeepsClock }
 {}

@@ -10,7 +10,7 @@ use step_values::Value;
 use wave_core::CyclicWave;
 
 /// The wave of a pin on a net with this wave: late by the bounds of the net's wire, and
-/// complemented where the pin is marked so.
+/// complemented if the pin is marked so.
 pub fn pin_wave<W: CyclicWave<Item = Value>>(
     alloc: Global,
     net: &Skewed<W>,

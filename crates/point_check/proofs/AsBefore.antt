@@ -1,4 +1,4 @@
--- What is the same where waves are.
+-- What is the same if waves are.
 use Rattle.std.proofs.Common.{◌≡◌, ℕ, Bool, true, false, All, List, map, refl, sym, ap, ◌∙◌, slice_get, Option, Some, None}
 use Rattle.std.specs.Option.{option_map}
 use Rattle.scald_base.specs.Time.{period}

@@ -1,6 +1,5 @@
 -- Breaks of the assertion of a driven net, and what is none, worked out on paper, in a period of
--- eight
--- slots.
+-- eight slots.
 use Prim.Native.String.{String}
 use Rattle.std.proofs.Common.{ℕ, false, [], ◌∷◌, length, refl, arith, Option, Some, None}
 use Rattle.scald_base.specs.Time.{Header}

@@ -32,7 +32,7 @@ first_some_is f (suc n) i x e = found_either f n i x (f i) refl e (λ later. fir
 
 -- ---- the last
 
--- where one passes, the last that does is no earlier
+-- if one passes, the last that does is no earlier
 pub record IsNoEarlier (j : ℕ) (o : Option ℕ) : Type 0 where
   pub last : ℕ
   pub is : o ≡ Some last

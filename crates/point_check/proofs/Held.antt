@@ -1,4 +1,4 @@
--- Where a net that is held has no fault, what its wave permits keeps its assertion.
+-- If a net that is held has no fault, what its wave permits keeps its assertion.
 use Rattle.std.proofs.Common.{◌≡◌, ℕ, ◌-◌, ◌%◌, ◌<◌, ◌≤◌, Bool, true, false, not, ◌&&◌, cond, length, refl, ap, ◌∙◌, arith, Some, None}
 use Rattle.std.proofs.lemmas.Bool.{or_parts}
 use Rattle.std.proofs.Math.Nat.{mod-lt}

@@ -57,7 +57,7 @@ module _ (c : Circuit) (ws : Waves) (run : Run) (k : ℕ) (j : Instance) (choice
   two_pins : (kind : Kind) → j.kind ≡ kind → (pin_counts kind).0 ≡ 2 → 2 ≤ length j.pins
   two_pins kind is two = let least = fits.pins.least in let same = ap (λ (q : Kind). (pin_counts q).0) is in omega (arith, least, same, two)
 
-  -- a pin's step, where its wave permits it
+  -- a pin's step, if its wave permits it
   starts : (i t : ℕ) → StepsFrom run choice i start t → max start (wire_to choice i + 1) ≤ t
   starts i t steps = let after = steps.after in let begins = steps.begins in omega (arith, after, begins)
 

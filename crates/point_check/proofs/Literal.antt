@@ -66,7 +66,7 @@ high_to {x} rise fall less rises high falls = record {
         implies_is (nat_le rise t) (x t)
         (each_passes (λ t. implies (nat_le rise t) (x t)) fall high t before) (le-leb rise t after)
 
--- where it is low between, it is not high to the end
+-- if it is low between, it is not high to the end
 pub no_fall : {x : Signal} {rise fall : ℕ} (low : ℕ) → x low ≡ false → rise ≤ low → low < fall →
     ¬ IsHighTo x rise fall
 no_fall {x} low is after before high = both_ways (x low) is (high.high low after (omega arith))

@@ -65,7 +65,7 @@ module _ (p : ℕ) (some : 1 ≤ p) (input : Folds) (t : ℕ) (w wider : Window)
   no_window_fault k none =
       ap (option_map (fault_at p k input w t)) (no_mover (map_none (fault_at p k input wider t) (first_mover p input wider t) none))
 
--- where there is a window, there is one that it is within
+-- if there is a window, there is one that it is within
 abbrev AreWithin : Option Window → Option Window → Type 0
 AreWithin None wider = Unit {0}
 AreWithin (Some w) None = ⊥

@@ -1,4 +1,4 @@
--- Where a marked pin has no hazard, what the waves permit does not break its rule.
+-- If a marked pin has no hazard, what the waves permit does not break its rule.
 use Rattle.std.proofs.Common.{◌≡◌, ◌≢◌, ℕ, zero, suc, ◌<◌, Bool, true, false, cond, List, [], ◌∷◌, length, refl, ap, ◌∙◌, arith, Some, None}
 use Rattle.std.specs.Option.{option_map}
 use Rattle.std.proofs.lemmas.List.{length-map}

@@ -1,4 +1,4 @@
--- Where a checker has no fault in the waves of its pins, what the waves permit does not break its constraint.
+-- If a checker has no fault in the waves of its pins, what the waves permit does not break its constraint.
 use Rattle.std.proofs.Common.{inl, inr, ◌≡◌, ℕ, ◌+◌, ◌-◌, ◌%◌, ◌<◌, ◌≤◌, Bool, true, false, cond, length, refl, sym, ap, ◌∙◌, arith, Option, Some, None}
 use Rattle.std.specs.Prelude.{is_some, is_none}
 use Rattle.std.proofs.lemmas.Bool.{both_ways, cases_lt}
@@ -51,7 +51,7 @@ slot_behind p t u pos =
     let none : t + 1 + 0 ≡ t + 1 = omega arith in
     ap (λ (z : ℕ). z % p) swap ∙ sym (back_zero p (back p u (t + 1) + (t + 1))) ∙ back_sooner p u (t + 1) (t + 1) 0 ∙ back_later p u (t + 1) 0 pos ∙ back_zero p u
 
--- ---- where a window has no fault, the input is quiet in it
+-- ---- if a window has no fault, the input is quiet in it
 
 unmoved : (quiet : Bool) (place : ℕ) → cond quiet None (Some place) ≡ None → quiet ≡ true
 unmoved true place none = refl

@@ -40,7 +40,7 @@ limited_fault_at c ws k limits = limited_fault_of c ws k limits (slice_get c.ins
 abbrev pub hazard_at : ℕ → ℕ × ℕ → Fault
 hazard_at k found = Hazard k found.0 found.1
 
--- the hazard of instance k, where a pin of it is marked
+-- the hazard of instance k, if a pin of it is marked
 abbrev pub mark_fault : Circuit → Waves → ℕ → Instance → Option Fault
 mark_fault c ws k j = option_map (hazard_at k) (hazard j.kind (pin_waves c ws j) (marked_pin j))
 

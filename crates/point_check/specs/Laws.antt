@@ -7,7 +7,7 @@ use Rattle.flat_circuit.specs.declared.limits.Limits.TheVariants.{Edges}
 use Rattle.fixpoint_engine.specs.Waves.{Waves}
 use Rattle.point_check.specs.Faults.{limited_fault}
 
--- No fault goes where a setup or a hold time is longer: where there is none with the longer times,
+-- No fault goes if a setup or a hold time is longer: if there is none with the longer times,
 -- there is none.
 abbrev pub LongerTimesKeepFaults : Type 0
 LongerTimesKeepFaults =

@@ -42,7 +42,7 @@ falls_somewhere p clock =
 abbrev pub about : Limits → Window
 about limits = record { setup = setup_of limits; high = 0; hold = hold_of limits }
 
--- from before the rise to after the last fall; none where no fall comes
+-- from before the rise to after the last fall; none if no fall comes
 abbrev pub to_last_fall : Limits → Option ℕ → Option Window
 to_last_fall limits None = None
 to_last_fall limits (Some high) =
@@ -78,7 +78,7 @@ window_of kind p clock limits t = window_if (check_of kind) p clock limits t
 
 -- ---- the fault
 
--- what an edge at slot t makes, where the clock may rise there
+-- what an edge at slot t makes, if the clock may rise there
 abbrev pub edge_fault : Kind → ℕ → ℕ → Folds → Folds → Limits → ℕ → Option Fault
 edge_fault kind p k clock input limits t =
     if has (clock t) false true then window_fault p k input t (window_of kind p clock limits t)

@@ -13,7 +13,7 @@ use Rattle.point_check.specs.Faults.{is_of_instance, is_of_net}
 use Rattle.point_check.specs.Break.{BreaksInstance, BreaksNet}
 
 -- Whatever the run and the tick: an instance whose pins are permitted from there on, and a net that
--- is, break nothing from there on, where none of the faults is theirs.
+-- is, break nothing from there on, if none of the faults is theirs.
 pub record KeepsConstraints (c : Circuit) (ws : Waves) (faults : List Fault) : Type 0 where
   pub instances : (run : Run) (k start : ℕ) → list_any (is_of_instance k) faults ≡ false →
       PinsPermitAt c ws run k start → ¬ BreaksInstance c run k start

@@ -31,7 +31,7 @@ abbrev pub kind_at : Window → ℕ → PointKind
 kind_at w place =
     if nat_lt place w.setup then Setup else if nat_lt place (w.setup + w.high) then High else Hold
 
--- the place, where the input may change there
+-- the place, if the input may change there
 abbrev pub mover_at : ℕ → Folds → Window → ℕ → ℕ → Option ℕ
 mover_at p input w t place = if is_quiet (input (slot_at p w t place)) then None else Some place
 

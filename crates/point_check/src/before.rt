@@ -42,7 +42,7 @@ fn have_one_wave_at<W: CyclicWave<Item = Value>>(
     true
 }
 
-/// The fault that the instance of a number had before, where it has the same waves at its pins: it
+/// The fault that the instance of a number had before, if it has the same waves at its pins: it
 /// has the same fault then.
 pub fn instance_before<W: CyclicWave<Item = Value>>(
     c: &Circuit,
@@ -65,7 +65,7 @@ pub fn instance_before<W: CyclicWave<Item = Value>>(
     Some(known[number as usize])
 }
 
-/// The fault that the net of a number had before, where it has the same wave: it has the same fault
+/// The fault that the net of a number had before, if it has the same wave: it has the same fault
 /// then.
 pub fn net_before<W: CyclicWave<Item = Value>>(
     c: &Circuit,

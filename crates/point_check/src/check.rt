@@ -26,7 +26,7 @@ use step_values::Value;
 use wave_core::CyclicWave;
 
 /// Whether an instance has something to check: it is a checker of points, or a pin of it is marked.
-/// Pins are read only where the kind may have a mark.
+/// Pins are read only if the kind may have a mark.
 fn is_watched(instance: &Instance) -> bool
     requires { PinsFit instance.now.kind instance.now.pins }
     ensures { result ≡ (checks_points instance.now.kind || is_some (marked instance.now)) }
@@ -61,7 +61,7 @@ fn fault_by_kind<W: CyclicWave<Item = Value>>(
 }
 
 /// The fault of the instance of a number, if it has one. Most instances have nothing to check, and
-/// are asked no more than that. Where the fault is known from before, the instance is not checked
+/// are asked no more than that. If the fault is known from before, the instance is not checked
 /// again.
 #[inline(always)]
 pub fn instance_fault<W: CyclicWave<Item = Value>>(
@@ -93,7 +93,7 @@ pub fn instance_fault<W: CyclicWave<Item = Value>>(
 }
 
 /// The fault of the net of a number, if something drives it, its name asserts something and it has
-/// one. Where it is known from before it is not checked again.
+/// one. If it is known from before it is not checked again.
 #[inline(always)]
 pub fn net_fault<W: CyclicWave<Item = Value>>(
     alloc: Global,
@@ -199,7 +199,7 @@ fn all_faults<W: CyclicWave<Item = Value>>(
 /// The faults that these settled waves of all nets show: of setup and hold, of rise and fall and of
 /// marked pins by the order of expansion, and then of assertions by the order of names. What the
 /// waves permit from a tick on breaks no constraint of an instance, and no assertion of a driven
-/// net, from there on, where the answer has no fault of it.
+/// net, from there on, if the answer has no fault of it.
 pub fn check_points<W: CyclicWave<Item = Value>>(
     alloc: Global,
     c: &Circuit,
@@ -212,7 +212,7 @@ pub fn check_points<W: CyclicWave<Item = Value>>(
     all_faults(alloc, c, &None, waves)
 }
 
-/// What [`check_points`] answers for these waves, where the fault of each instance and of each net
+/// What [`check_points`] answers for these waves, if the fault of each instance and of each net
 /// in others is known. What has the same waves in both is not checked again.
 pub fn check_points_again<W: CyclicWave<Item = Value>>(
     alloc: Global,

@@ -14,7 +14,7 @@ use crate::folds::LastFold;
 use crate::last_check::Constraint;
 use crate::recent::Recent;
 use fixpoint_engine::{Waves, pin_wave};
-use flat_circuit::{Circuit, Fault, Instance, Limits, Pin};
+use flat_circuit::{Circuit, Fault, Instance, Limits};
 use scald_base::NoMemory;
 use skew_algebra::Skewed;
 use std::alloc::Global;
@@ -41,64 +41,61 @@ fn fault_between<W: CyclicWave<Item = Value>>(
     }
     let clock_folds = clocks.of(alloc, clock)?;
     let input_folds = input.folded(alloc)?;
-    let Constraint {
-        kind,
-        instance,
-        limits,
-    } = asked;
-    Ok(first_fault(kind, instance, &clock_folds, &input_folds, limits))
+    Ok(first_fault(
+        asked.kind,
+        asked.instance,
+        &clock_folds,
+        &input_folds,
+        asked.limits,
+    ))
 }
 
-/// The fault of a checker with these pins.
+/// The fault of a checker.
 fn checker_fault<W: CyclicWave<Item = Value>>(
     alloc: Global,
     clocks: &mut LastFold<W>,
     c: &Circuit,
     waves: &Waves<W>,
     asked: Constraint,
-    clock: Pin,
-    input: Pin,
 ) -> Result<Option<Fault>, NoMemory>
-    requires clock { PinExists (length c.now.nets) clock }
-    requires input { PinExists (length c.now.nets) input }
+    requires clock { PinExists (length c.now.nets) asked.clock }
+    requires input { PinExists (length c.now.nets) asked.input }
     requires limits { setup_of asked.limits + hold_of asked.limits ≤ period c.now.header }
     requires fit { FitWaves c.now waves.now }
     ensures { let ws = waves_of waves.now in
         IfOk result (λ found. found ≡ fault_of_checker asked.kind (period c.now.header)
-        asked.instance (wave_shown c.now ws clock) (wave_shown c.now ws input) asked.limits) }
+        asked.instance (wave_shown c.now ws asked.clock) (wave_shown c.now ws asked.input)
+        asked.limits) }
 {
-    let clock_wave = pin_wave(alloc, c, waves, clock)?;
-    let input_wave = pin_wave(alloc, c, waves, input)?;
+    let clock_wave = pin_wave(alloc, c, waves, asked.clock)?;
+    let input_wave = pin_wave(alloc, c, waves, asked.input)?;
     let found = fault_between(alloc, clocks, asked, &clock_wave, &input_wave)?;
     Ok(found)
 }
 
-/// The fault of a checker with these pins, which is not worked out where the last one asked the
-/// same of the same waves.
+/// The fault of a checker, which is not worked out if the last one asked the same of the same
+/// waves.
 fn fault_once<W: CyclicWave<Item = Value>>(
     alloc: Global,
     recent: &mut Recent<W>,
     c: &Circuit,
     waves: &Waves<W>,
     asked: Constraint,
-    clock: Pin,
-    input: Pin,
 ) -> Result<Option<Fault>, NoMemory>
-    requires clock { PinExists (length c.now.nets) clock }
-    requires input { PinExists (length c.now.nets) input }
+    requires clock { PinExists (length c.now.nets) asked.clock }
+    requires input { PinExists (length c.now.nets) asked.input }
     requires limits { setup_of asked.limits + hold_of asked.limits ≤ period c.now.header }
     requires fit { FitWaves c.now waves.now }
     ensures { let ws = waves_of waves.now in
         IfOk result (λ found. found ≡ fault_of_checker asked.kind (period c.now.header)
-        asked.instance (wave_shown c.now ws clock) (wave_shown c.now ws input) asked.limits) }
+        asked.instance (wave_shown c.now ws asked.clock) (wave_shown c.now ws asked.input)
+        asked.limits) }
 {
-    if let Some(found) = recent.check.found(c, waves, asked, clock, input) {
+    if let Some(found) = recent.check.found(c, waves, asked) {
         return Ok(found);
     }
-    let found = checker_fault(alloc, &mut recent.clock, c, waves, asked, clock, input)?;
-    recent
-        .check
-        .keep(alloc, c, waves, asked, clock, input, found)?;
+    let found = checker_fault(alloc, &mut recent.clock, c, waves, asked)?;
+    recent.check.keep(alloc, c, waves, asked, found)?;
     Ok(found)
 }
 
@@ -119,22 +116,22 @@ pub fn limited_fault<W: CyclicWave<Item = Value>>(
     ensures { let ws = waves_of waves.now in
         IfOk result (λ found. found ≡ fault_with c.now ws number checker.now limits) }
 {
+    let pins = checker.pins.as_slice();
     let asked = Constraint {
         kind: checker.kind,
         instance: number,
         limits,
+        clock: pins[0],
+        input: pins[1],
     };
-    let pins = checker.pins.as_slice();
-    let clock = pins[0];
-    let input = pins[1];
-    let found = fault_once(alloc, recent, c, waves, asked, clock, input)?;
+    let found = fault_once(alloc, recent, c, waves, asked)?;
     Ok(found)
 }
 
 /// The fault that a `SETUP_HOLD_CHK` or a `SETUP_RISE_HOLD_FALL_CHK` has with these setup and hold
 /// times, in ticks, in place of its own: that of the first slot of its clock at which the clock may
 /// rise while its input may change in the edge's window, and the first such change. `None` exactly
-/// where there is none.
+/// if there is none.
 pub fn point_fault<W: CyclicWave<Item = Value>>(
     alloc: Global,
     c: &Circuit,

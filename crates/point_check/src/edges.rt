@@ -109,7 +109,7 @@ pub fn last_fall<W: CyclicWave<Item = Value>>(clock: &W, edge: u16, low: u16) ->
     last
 }
 
-/// The window where the clock may stay at 1 for ever: the whole period, or none where it can not
+/// The window if the clock may stay at 1 for ever: the whole period, or none if it can not
 /// fall.
 fn all_round<W: CyclicWave<Item = Value>>(clock: &W, limits: Limits) -> Option<Window>
     requires { setup_of limits + hold_of limits ≤ length (W.cells clock.now) }
@@ -128,8 +128,8 @@ fn all_round<W: CyclicWave<Item = Value>>(clock: &W, limits: Limits) -> Option<W
     }
 }
 
-/// From before a rise to after the last fall after it; the whole period where the clock may stay at
-/// 1 for ever, and no window where it can not fall.
+/// From before a rise to after the last fall after it; the whole period if the clock may stay at
+/// 1 for ever, and no window if it can not fall.
 fn high_window<W: CyclicWave<Item = Value>>(clock: &W, limits: Limits, edge: u16) -> Option<Window>
     requires edge { edge < length (W.cells clock.now) }
     requires limits { setup_of limits + hold_of limits ≤ length (W.cells clock.now) }
@@ -193,7 +193,7 @@ fn window_of<W: CyclicWave<Item = Value>>(
     }
 }
 
-/// What an edge makes, where the clock may rise in its slot.
+/// What an edge makes, if the clock may rise in its slot.
 fn edge_fault<W: CyclicWave<Item = Value>>(
     kind: Kind,
     instance: u32,
@@ -217,7 +217,7 @@ fn edge_fault<W: CyclicWave<Item = Value>>(
     }
 }
 
-/// The first slot from this one on in which the clock may rise, or the period where there is none.
+/// The first slot from this one on in which the clock may rise, or the period if there is none.
 fn next_edge<W: CyclicWave<Item = Value>>(clock: &W, from: u16) -> u16
     requires { from ≤ length (W.cells clock.now) }
     ensures { IsNextEdge (read (W.cells clock.now)) from (length (W.cells clock.now)) result }

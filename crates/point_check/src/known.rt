@@ -15,7 +15,7 @@ use std::alloc::Global;
 use step_values::Value;
 use wave_core::CyclicWave;
 
-/// The fault of each instance and of each net in some waves, by their numbers, or `None` where it
+/// The fault of each instance and of each net in some waves, by their numbers, or `None` if it
 /// has none.
 #[derive(Drop)]
 pub struct PointFaults {

@@ -18,12 +18,15 @@ use std::alloc::Global;
 use step_values::Value;
 use wave_core::CyclicWave;
 
-/// What a checker asks of its input: by its kind and its number, and its setup and hold times.
+/// What a checker asks of its input: its kind and its number, its setup and hold times, and the
+/// pins of its clock and its input.
 #[derive(Clone, Copy, Drop)]
 pub struct Constraint {
     pub kind: Kind,
     pub instance: u32,
     pub limits: Limits,
+    pub clock: Pin,
+    pub input: Pin,
 }
 
 /// The wave of the net that a pin is on, with the bounds of the wire that leads from there, in
@@ -36,7 +39,7 @@ pub struct Shown<W: CyclicWave<Item = Value>> {
 }
 
 impl<W: CyclicWave<Item = Value>> Shown<W> {
-    /// That of a pin; `None` where it is on a constant.
+    /// That of a pin; `None` if it is on a constant.
     #[tactic(auto, using(crate::proofs::Again::shows_net))]
     fn of(
         alloc: Global,
@@ -141,23 +144,16 @@ fn for_instance(fault: Fault, instance: u32) -> Fault
 
 impl<W: CyclicWave<Item = Value>> Checked<W> {
     /// Whether a checker asks the same of the same waves.
-    fn is_again(
-        &self,
-        c: &Circuit,
-        waves: &Waves<W>,
-        asked: Constraint,
-        clock: Pin,
-        input: Pin,
-    ) -> bool
-        requires clock { PinExists (length c.now.nets) clock }
-        requires input { PinExists (length c.now.nets) input }
+    fn is_again(&self, c: &Circuit, waves: &Waves<W>, asked: Constraint) -> bool
+        requires clock { PinExists (length c.now.nets) asked.clock }
+        requires input { PinExists (length c.now.nets) asked.input }
         requires fit { FitWaves c.now waves.now }
         ensures kind { IsTrue result → self.now.asked.kind ≡ asked.kind }
         ensures limits { IsTrue result → self.now.asked.limits ≡ asked.limits }
         ensures clock { IsTrue result → Shows c.now (waves_of waves.now)
-            self.now.clock.wave self.now.clock.wire self.now.clock.inverted clock }
+            self.now.clock.wave self.now.clock.wire self.now.clock.inverted asked.clock }
         ensures input { IsTrue result → Shows c.now (waves_of waves.now)
-            self.now.input.wave self.now.input.wire self.now.input.inverted input }
+            self.now.input.wave self.now.input.wire self.now.input.inverted asked.input }
     {
         if self.asked.kind != asked.kind {
             return false;
@@ -165,7 +161,7 @@ impl<W: CyclicWave<Item = Value>> Checked<W> {
         if self.asked.limits != asked.limits {
             return false;
         }
-        self.clock.is_of(c, waves, clock) && self.input.is_of(c, waves, input)
+        self.clock.is_of(c, waves, asked.clock) && self.input.is_of(c, waves, asked.input)
     }
 }
 
@@ -181,28 +177,21 @@ impl<W: CyclicWave<Item = Value>> LastCheck<W> {
         LastCheck { kept: None }
     }
 
-    /// The fault of a checker with these pins, where it asks the same of the same waves as the last
-    /// one.
+    /// The fault of a checker, if it asks the same of the same waves as the last one.
     #[tactic(auto, using(crate::proofs::Again::found_is))]
-    pub fn found(
-        &self,
-        c: &Circuit,
-        waves: &Waves<W>,
-        asked: Constraint,
-        clock: Pin,
-        input: Pin,
-    ) -> Option<Option<Fault>>
-        requires clock { PinExists (length c.now.nets) clock }
-        requires input { PinExists (length c.now.nets) input }
+    pub fn found(&self, c: &Circuit, waves: &Waves<W>, asked: Constraint) -> Option<Option<Fault>>
+        requires clock { PinExists (length c.now.nets) asked.clock }
+        requires input { PinExists (length c.now.nets) asked.input }
         requires fit { FitWaves c.now waves.now }
         ensures { let ws = waves_of waves.now in
             IfSome result (λ found. found ≡ fault_of_checker asked.kind (period c.now.header)
-            asked.instance (wave_shown c.now ws clock) (wave_shown c.now ws input) asked.limits) }
+            asked.instance (wave_shown c.now ws asked.clock) (wave_shown c.now ws asked.input)
+            asked.limits) }
     {
         let Some(kept) = &self.kept else {
             return None;
         };
-        if !kept.is_again(c, waves, asked, clock, input) {
+        if !kept.is_again(c, waves, asked) {
             return None;
         }
         match kept.found {
@@ -211,7 +200,7 @@ impl<W: CyclicWave<Item = Value>> LastCheck<W> {
         }
     }
 
-    /// Keeps a checker with these pins, and its fault.
+    /// Keeps a checker, and its fault.
     #[tactic(auto, using(crate::proofs::Again::kept_is))]
     pub fn keep(
         &mut self,
@@ -219,21 +208,19 @@ impl<W: CyclicWave<Item = Value>> LastCheck<W> {
         c: &Circuit,
         waves: &Waves<W>,
         asked: Constraint,
-        clock: Pin,
-        input: Pin,
         found: Option<Fault>,
     ) -> Result<(), NoMemory>
-        requires clock { PinExists (length c.now.nets) clock }
-        requires input { PinExists (length c.now.nets) input }
+        requires clock { PinExists (length c.now.nets) asked.clock }
+        requires input { PinExists (length c.now.nets) asked.input }
         requires fit { FitWaves c.now waves.now }
         requires found { let ws = waves_of waves.now in
-            found ≡ fault_of_checker asked.kind (period c.now.header)
-            asked.instance (wave_shown c.now ws clock) (wave_shown c.now ws input) asked.limits }
+            found ≡ fault_of_checker asked.kind (period c.now.header) asked.instance
+            (wave_shown c.now ws asked.clock) (wave_shown c.now ws asked.input) asked.limits }
     {
-        let Some(clock) = Shown::of(alloc, c, waves, clock)? else {
+        let Some(clock) = Shown::of(alloc, c, waves, asked.clock)? else {
             return Ok(());
         };
-        let Some(input) = Shown::of(alloc, c, waves, input)? else {
+        let Some(input) = Shown::of(alloc, c, waves, asked.input)? else {
             return Ok(());
         };
         self.kept = Some(Checked {

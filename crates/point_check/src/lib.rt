@@ -3,13 +3,11 @@
 //! asserts.
 //!
 //! The layer above calls [`check_points`] for the faults of all settled waves,
-//! [`check_points_again`] for those of further waves, where [`known_points`] were worked out once,
-//! and [`point_fault`] for what a checker finds with other limits. [`first_low`] and [`last_fall`]
-//! tell how long a clock is high. `specs/Faults` says which faults
-//! come, in which order:
-//! `specs/Point` those of checkers, over the windows of `specs/Window`, `specs/Assertion` those of
-//! nets.
-//! `specs/Break` says what a run breaks, and `specs/Sound` that nothing breaks where there is no
+//! [`check_points_again`] for those of further waves, if [`known_points`] were worked out once, and
+//! [`point_fault`] for what a checker finds with other limits. [`first_low`] and [`last_fall`] say
+//! how long a clock is high. `specs/Faults` says which faults come, in which order: `specs/Point`
+//! those of checkers, over the windows of `specs/Window`, `specs/Assertion` those of nets.
+//! `specs/Break` says what a run breaks, and `specs/Sound` that nothing breaks if there is no
 //! fault.
 #![tactic(auto)]
 

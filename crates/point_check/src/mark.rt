@@ -20,7 +20,7 @@ pub fn marked_pin(gate: &Instance) -> Option<usize>
     gate.pins.as_slice().iter().position(|pin| pin.hold)
 }
 
-/// The hazard of a gate, where a pin of it is marked: another pin may change while the marked one
+/// The hazard of a gate, if a pin of it is marked: another pin may change while the marked one
 /// lets it through.
 pub fn mark_fault<W: CyclicWave<Item = Value>>(
     alloc: Global,

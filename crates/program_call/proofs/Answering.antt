@@ -114,7 +114,7 @@ module _ {Command Outcome : Type 0} (m : Meaning Command Outcome) (lawful : IsLa
   -- ---- the reply, as the answer to what is told
 
   module _ (words : List (List ℕ)) (left left' : Option (List ℕ)) where
-    -- where the form reads, what was read is what is told
+    -- if the form reads, what was read is what is told
     pub told_all : (text : List ℕ) (o : Outcome) (bytes : List ℕ) → AreTold m words left text →
         (r : IsReply m words left left' o bytes) → m.reads r.command ≡ true → r.text ≡ text
     told_all text o bytes (by_source told) r asks =

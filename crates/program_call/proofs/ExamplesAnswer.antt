@@ -57,7 +57,7 @@ abbrev babble : Meaning Bool Outcome
 babble = program (λ command text o bytes. o ≡ Done)
     (λ o bytes p others. (o ≡ p) × (bytes ≡ others))
 
--- the same where replies of one outcome count as one
+-- the same if replies of one outcome count as one
 abbrev talk : Meaning Bool Outcome
 talk = program (λ command text o bytes. o ≡ Done) (λ o bytes p others. o ≡ p)
 
@@ -89,7 +89,7 @@ many_replies text taken taken' short answered =
     (replied true Done (1 ∷ answered.bytes) refl (λ asks. short) refl) in
     absurd (omega (arith, ap length other.1))
 
--- where replies of one outcome count as one, any bytes are the answer
+-- if replies of one outcome count as one, any bytes are the answer
 any_reply : (bytes : List ℕ) → IsAnswered talk word [] Done (Some []) (Some bytes)
 any_reply bytes = record {
   bytes = bytes;

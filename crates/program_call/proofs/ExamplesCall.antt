@@ -15,7 +15,7 @@ use Rattle.program_call.proofs.ExamplesAnswer.{word}
 
 -- ---- devices that tell their bytes
 
--- the bytes that are left or were taken, where they are told, and a count of faults
+-- the bytes that are left or were taken, if they are told, and a count of faults
 abbrev State : Type 0
 State = Option (List ℕ) × ℕ
 
@@ -73,7 +73,7 @@ unwritten : ¬ Is word TooLong (at four) (at []) (at []) (at two)
 unwritten call = let same =
     call.unwritten refl in absurd (let none = ap (λ (s : State). s.0) same in cc)
 
--- where nothing fails, the outcome is that of the answer
+-- if nothing fails, the outcome is that of the answer
 whole : ¬ Is word ReadFault (at two) (at []) (at []) (at [])
 whole call = by (call.whole two (by_source refl) (λ asks. never_rose) never_rose)
   where

@@ -1,4 +1,4 @@
--- A circuit has one conclusion, and a text is evaluated in one way, where what is reported of a
+-- A circuit has one conclusion, and a text is evaluated in one way, if what is reported of a
 -- circuit is one.
 use Rattle.std.proofs.Common.{◌≡◌, ℕ, suc, refl, sym, ap, subst, List, Option}
 use Rattle.flat_circuit.specs.declared.case.CaseValue.{CaseValue}

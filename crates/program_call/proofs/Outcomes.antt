@@ -1,4 +1,4 @@
--- What holds of each outcome that a text may have, where it holds of those that are reported.
+-- What holds of each outcome that a text may have, if it holds of those that are reported.
 use Rattle.std.proofs.Common.{◌≡◌, ℕ, ◌≤◌, Bool, true, false, not, cond, List, refl, ap, arith, Option, None}
 use Rattle.std.specs.Prelude.{◌==◌, ◌≢◌}
 use Rattle.scald_base.specs.declared.refusal.Refusal.{Refusal}
@@ -61,7 +61,7 @@ settled_evaluated Reports rounds text is o bytes reported =
     answer.judged is.circuit is.values o bytes is.drawn
     (settled is.base is.cases o bytes is.settles is.are_settled reported)
 
--- where what is answered is written, so is what is reported
+-- if what is answered is written, so is what is reported
 pub report_written : (Reports : Drawing → Reporting) (text : List ℕ) (o : Outcome)
     (taken taken' : Option (List ℕ)) →
     ((reply : Outcome) (bytes : List ℕ) → Evaluated Reports None text reply bytes →

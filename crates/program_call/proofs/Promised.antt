@@ -43,7 +43,7 @@ module _ (name : List ℕ) (Replied : Replying) where
       (replied Reply reply bytes (none_asked words asked) (λ reads. short) is) in
       inr (sym same.0, subst (Appends taken taken') (sym same.1) answered.written)
 
-  -- where the source tells its bytes, and no device fails
+  -- if the source tells its bytes, and no device fails
   pub finished : (Finished : List ℕ → Type 0) (words : List (List ℕ)) (left taken taken' : Option (List ℕ)) (o : Outcome) (Read Written : Type 0) →
       ((text : List ℕ) → ((reply : Outcome) (bytes : List ℕ) → Replied text reply bytes →
       Writes reply bytes o taken taken') → Finished text) →

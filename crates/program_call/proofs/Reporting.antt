@@ -66,7 +66,7 @@ some_are_listed : (cases : List (List CaseValue)) → (length cases == 0) ≡ fa
 some_are_listed [] some = absurd (cc)
 some_are_listed (values ∷ cases) some = refl
 
--- where there are some, they are those that are numbered
+-- if there are some, they are those that are numbered
 pub some_listed : (c : Circuit) (limit base : ℕ) (cases : List (List CaseValue))
     (Holds : List Case → Type 0) →
     (length cases == 0) ≡ false → OfCases c limit base (numbered 1 cases) Holds →
@@ -75,7 +75,7 @@ some_listed c limit base cases Holds some of_cases =
     subst (λ (ls : List Listed). OfCases c limit base ls Holds) (some_are_listed cases some)
     of_cases
 
--- where there are none, it is the one case that is listed
+-- if there are none, it is the one case that is listed
 pub none_listed : (c : Circuit) (limit base : ℕ) (cases : List (List CaseValue))
     (Before After : List Case → Type 0) →
     (length cases == 0) ≡ true →
@@ -99,7 +99,7 @@ module _ (cases : List (List CaseValue)) (k : ℕ) (inside : k < length cases) w
       take_more cases k [] inside in
       ap (numbered 1) next ∙ numbered_here cases k inside []
 
-  -- where there is a case, all are listed by their numbers
+  -- if there is a case, all are listed by their numbers
   all_listed : (all : List (List CaseValue)) → k < length all → numbered 1 all ≡ listed_cases all
   all_listed [] some = absurd (omega (arith, some))
   all_listed (values ∷ others) some = refl

@@ -1,4 +1,4 @@
--- What is answered on a text is no end of a call, where what is reported is none.
+-- What is answered on a text is no end of a call, if what is reported is none.
 use Rattle.std.proofs.Common.{◌≡◌, ℕ, Bool, true, false, cond, List, refl, Option, None}
 use Rattle.std.specs.Prelude.{◌==◌}
 use Rattle.scald_base.specs.declared.outcome.Outcome.{Outcome}

@@ -28,7 +28,7 @@ abbrev pub Reporting : Type 1
 Reporting = Circuit → ℕ → List Case → Outcome → List ℕ → Type 0
 
 -- What is answered on a circuit and its cases, with which bytes: what is reported of the settled
--- base and cases; or, where the base or else a case has not settled by the limit, and every case
+-- base and cases; or, if the base or else a case has not settled by the limit, and every case
 -- before it has, the first net in name order that still changes there.
 pub data Concluded (Reports : Reporting) (c : Circuit) (values : List (List CaseValue))
     (limit : ℕ) :

@@ -1,4 +1,4 @@
--- What is answered where a circuit or a case of it never settles.
+-- What is answered if a circuit or a case of it never settles.
 use Rattle.std.specs.Prelude.{◌≡◌, ℕ, List}
 use Rattle.flat_circuit.specs.Circuit.{Circuit}
 use Rattle.fixpoint_engine.specs.declared.rounds.EngineEnd.{EngineEnd}

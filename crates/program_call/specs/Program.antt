@@ -19,7 +19,7 @@ pub record Meaning (Command Outcome : Type 0) : Type 1 where
   pub end_of : Outcome → Option CallEnd
 
 -- Each end has an outcome of its own, and no reply is such an outcome. All replies to a text count
--- as one, which is the same to all texts where the source is not read.
+-- as one, which is the same to all texts if the source is not read.
 pub record IsLawful {Command Outcome : Type 0} (m : Meaning Command Outcome) : Type 0 where
   pub ends : (end : CallEnd) → m.end_of (m.ended end) ≡ Some end
   pub replies : (command : Command) (text : List ℕ) (o : Outcome) (bytes : List ℕ) →
@@ -103,8 +103,8 @@ pub data Answer {Command Outcome : Type 0} (m : Meaning Command Outcome)
       (m.reads command ≡ true → length text ≤ m.most_bytes (Ok command)) →
       m.Replied command text o bytes → Answer m words text o bytes
 
--- What the words are answered to: the bytes that the source has left, where it tells them; and
--- any bytes where the words are of no form that reads, since then the answer is the same to all.
+-- What the words are answered to: the bytes that the source has left, if it tells them; and
+-- any bytes if the words are of no form that reads, since then the answer is the same to all.
 pub data AreTold {Command Outcome : Type 0} (m : Meaning Command Outcome)
     (words : List (List ℕ)) (left : Option (List ℕ)) (text : List ℕ) : Type 0 where
   by_source : left ≡ Some text → AreTold m words left text
@@ -131,7 +131,7 @@ pub record IsCutShort {Command Outcome : Type 0} (m : Meaning Command Outcome)
 
 -- ---- the reply, whether the devices tell their bytes or not
 
--- The words are of a form, a text was read where it reads, and this is the reply to that text.
+-- The words are of a form, a text was read if it reads, and this is the reply to that text.
 pub record IsReply {Command Outcome : Type 0} (m : Meaning Command Outcome)
     (words : List (List ℕ)) (left left' : Option (List ℕ)) (o : Outcome)
     (bytes : List ℕ) : Type 0 where

@@ -32,7 +32,7 @@ abbrev pub Writes : Outcome → List ℕ → Outcome → Option (List ℕ) → O
 Writes replied bytes o taken taken' = (o ≡ NoMemory) ⊎ ((o ≡ replied) × Appends taken taken' bytes)
 
 -- The text draws a circuit, and nothing of it is refused; its base and each of its cases settle,
--- within this limit where one is given, and else within the circuit's own.
+-- within this limit if one is given, and else within the circuit's own.
 pub record TextSettles (rounds : Option ℕ) (text : List ℕ) : Type 0 where
   pub circuit : Circuit
   pub values : List (List CaseValue)
@@ -42,7 +42,7 @@ pub record TextSettles (rounds : Option ℕ) (text : List ℕ) : Type 0 where
   pub cases : List Case
   pub are_settled : AreSettled circuit (limit_for circuit rounds) base (listed_cases values) cases
 
--- Where the text settles within its circuit's own limit of rounds, what is reported of the circuit
+-- If the text settles within its circuit's own limit of rounds, what is reported of the circuit
 -- and its cases is written.
 abbrev pub WritesReport : (Drawing → Reporting) → List ℕ → Outcome → Option (List ℕ) →
     Option (List ℕ) → Type 0

@@ -11,7 +11,7 @@ use std::alloc::Global;
 
 /// Answers what the words ask the program for and writes it to the sink.
 ///
-/// Where the words are of a form that reads, the source is read to its end, or to the first byte
+/// If the words are of a form that reads, the source is read to its end, or to the first byte
 /// past the most that the program reads, or to its first fault. All of the answer is made before
 /// the first byte of it is written.
 ///
@@ -74,7 +74,7 @@ fn asked<P: Program, S: Source>(
     }
 }
 
-/// All bytes of the source where the command reads them, and no bytes where it does not.
+/// All bytes of the source if the command reads them, and no bytes if it does not.
 fn text_for<P: Program, S: Source>(
     alloc: Global,
     command: P::Command,

@@ -48,7 +48,7 @@ fn add_case<R: Reporter, W: CyclicWave<Item = Value>>(
     reporter.add_case(alloc, circuit, place, case, &waves)
 }
 
-/// Reports the one case of a circuit for which none is listed, and nothing where some are.
+/// Reports the one case of a circuit for which none is listed, and nothing if some are.
 fn add_only_case<R: Reporter, W: CyclicWave<Item = Value>>(
     alloc: Global,
     subject: &Subject,

@@ -24,7 +24,7 @@ pub fn refused(alloc: Global, refusal: Refusal) -> Result<Reply<Outcome>, NoMemo
     })
 }
 
-/// The answer where a circuit or a case of it does not settle: the line of the first net that still
+/// The answer if a circuit or a case of it does not settle: the line of the first net that still
 /// changes in the round at the limit.
 pub fn ended(alloc: Global, circuit: &Circuit, end: EngineEnd) -> Result<Reply<Outcome>, NoMemory>
     requires { (place round : ℕ) → end ≡ EngineEnd.Unsettled place round →

@@ -36,7 +36,7 @@ pub fn number_in(most: u32, digits: &[u8]) -> Option<u32>
     }
 }
 
-/// The value of digits, or the greatest number of 32 bits where it is greater.
+/// The value of digits, or the greatest number of 32 bits if it is greater.
 fn value(digits: &[u8]) -> u32
     ensures { result ≡ min (value_of digits.now) (2 ^ 32 - 1) }
 {

@@ -25,8 +25,8 @@ pub trait Program {
     /// What is promised of a text whose reply has this outcome, beside the outcome and the bytes.
     ghost promised: { Self.Command → List ℕ → Self.Outcome → Type 0 } = { λ command text o. Unit {0} };
 
-    /// What the words ask for. Where they are unrecognised, `Err` is the number of the first with
-    /// which no form continues, from 0, or the count of words where one is missing.
+    /// What the words ask for. If they are unrecognised, `Err` is the number of the first with
+    /// which no form continues, from 0, or the count of words if one is missing.
     fn read_words(words: &Words) -> Result<Self::Command, u32>
         ensures is { result ≡ meaning.command_of words.now }
         ensures within { IfOk result within };
@@ -40,7 +40,7 @@ pub trait Program {
         ensures is { result ≡ meaning.most_bytes (Ok command) }
         ensures bounded { result < 2 ^ 32 - 1 };
 
-    /// The reply to a text, which is empty where the source is not read. A program that verifies
+    /// The reply to a text, which is empty if the source is not read. A program that verifies
     /// sets `undriven` to how many nets of the circuit nothing determines: neither a driver nor an
     /// assertion nor a case. Nothing is promised of that number.
     fn reply(

@@ -40,7 +40,7 @@ pub trait Reporter: Sized + Drop {
     /// What holds before one case more, after so many.
     ghost ready: { Self → Flat → ℕ → Type 0 } = { λ reporter c cases. Unit {0} };
 
-    /// What is kept of a drawing. `NoMemory` comes where memory runs out, here and below.
+    /// What is kept of a drawing. `NoMemory` comes if memory runs out, here and below.
     fn keep(alloc: Global, drawing: &Drawing) -> Result<Self::Kept, NoMemory>
         requires { IsWellFormed (drawing_of drawing.now) }
         ensures { IfOk result (λ kept. kept ≡ keeps (drawing_of drawing.now)) };

@@ -21,11 +21,11 @@ use timing_analysis::{Subject, circuit_of, read_text};
 use wave_core::CyclicWave;
 
 /// The reply to a text of fewer than 4,294,967,295 bytes: what `R` reports of its circuit, after at
-/// most so many rounds of the base and of each case where the number is given, at most 10,000,000,
+/// most so many rounds of the base and of each case if the number is given, at most 10,000,000,
 /// or else as many as the circuit's own limit has; or why the text is refused, or which net does
 /// not settle. It is the same whichever kind of waves is chosen.
 ///
-/// Where the text is accepted, `undriven` becomes how many nets of its circuit nothing determines:
+/// If the text is accepted, `undriven` becomes how many nets of its circuit nothing determines:
 /// neither a driver nor an assertion nor a case. Nothing is promised of that number.
 pub fn reply_to<R: Reporter, W: CyclicWave<Item = Value>>(
     alloc: Global,

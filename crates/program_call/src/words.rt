@@ -23,8 +23,8 @@ fn no_more(words: &[Bytes]) -> Result<Request, u32>
     }
 }
 
-/// What the words ask the program of this name for. `Err` is 0 where the first word is not the name
-/// or there is none, and 1 where a word follows it.
+/// What the words ask the program of this name for. `Err` is 0 if the first word is not the name
+/// or there is none, and 1 if a word follows it.
 pub fn read_name(name: &[u8], words: &Words) -> Result<Request, u32>
     ensures { result ≡ by_name name.now words.now }
 {

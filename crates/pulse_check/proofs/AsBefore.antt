@@ -1,4 +1,4 @@
--- What is the same where waves are.
+-- What is the same if waves are.
 use Rattle.std.proofs.Common.{◌≡◌, ℕ, ◌<◌, true, false, List, [], ◌∷◌, ◌++◌, length, map, get_or, refl, sym, ap, ◌∙◌, arith, slice_get, Some}
 use Rattle.scald_base.specs.Time.{period}
 use Rattle.element_kinds.specs.declared.kind.Kind.{Kind}

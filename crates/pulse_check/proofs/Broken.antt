@@ -19,8 +19,8 @@ use Rattle.fixpoint_engine.proofs.WrittenRuns.{element, run_of}
 use Rattle.pulse_check.specs.Break.{BreaksPulse}
 use Rattle.pulse_check.proofs.Literal.{found}
 
--- ---- the circuit: a clock that is high for two ticks of eight, where three are asked for, and low
--- for six, where seven are
+-- ---- the circuit: a clock that is high for two ticks of eight, if three are asked for, and low
+-- for six, if seven are
 
 abbrev pub clock : ClockSpec
 clock = record { spans = record { lo = 2; hi = 4 } ∷ []; low = false; skew = None }

@@ -1,4 +1,4 @@
--- Where a greater width is asked for no fault goes.
+-- If a greater width is asked for no fault goes.
 use Rattle.std.proofs.Common.{◌≡◌, ℕ, ◌-◌, ◌≤◌, Bool, true, false, cond, refl, ap, arith, Option, Some, None}
 use Rattle.std.specs.Option.{option_map}
 use Rattle.step_values.specs.declared.value.Value.{Value}

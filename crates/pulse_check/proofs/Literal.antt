@@ -41,7 +41,7 @@ pulse_to {x} {level} start end less before stay behind = record {
         (each_passes (λ t. implies (nat_le start t) (same_bit level (x t))) end stay t below)
         (le-leb start t after)))
 
--- where it is at the other level between, it is no pulse to the end
+-- if it is at the other level between, it is no pulse to the end
 pub no_pulse : {x : Signal} {level : Bool} {start end : ℕ} (other : ℕ) → x other ≡ not level →
     start ≤ other → other < end →
     ¬ IsPulse x level start end
@@ -128,7 +128,7 @@ module _ {run : Run} {j : Instance} {choice : Choice} {level : Bool} {from : ℕ
       none (subst (λ (t : ℕ). IsWidthBreak run j choice level from t end) s
       (subst (λ (t : ℕ). IsWidthBreak run j choice level from b.start t) e b.at))
 
-  -- nor where none begins in the run
+  -- nor if none begins in the run
   pub no_step : only (stepping level (pin_at run j choice 0)) run.ticks 0 ≡ true →
       ¬ BreaksWidth run j choice level from
   no_step steps b =

@@ -5,7 +5,7 @@ use Rattle.flat_circuit.specs.Circuit.{Circuit}
 use Rattle.fixpoint_engine.specs.Waves.{Waves}
 use Rattle.pulse_check.specs.Faults.{limited_fault}
 
--- No fault goes where a greater width is asked for: where there is none with the greater one, there
+-- No fault goes if a greater width is asked for: if there is none with the greater one, there
 -- is none.
 abbrev pub GreaterWidthsKeepFaults : Type 0
 GreaterWidthsKeepFaults =

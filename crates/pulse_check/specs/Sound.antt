@@ -20,7 +20,7 @@ is_of_pulse k level (Hazard instance slot pin) = false
 is_of_pulse k level (Assertion net slot value) = false
 
 -- Whatever the run and the tick: a checker whose pin is permitted from there on has no narrow pulse
--- at a level from there on, where none of the faults is of its pulses at that level.
+-- at a level from there on, if none of the faults is of its pulses at that level.
 abbrev pub KeepsWidths : Circuit → Waves → List Fault → Type 0
 KeepsWidths c ws faults =
     (run : Run) (k : ℕ) (level : Bool) (from : ℕ) → list_any (is_of_pulse k level) faults ≡ false →

@@ -39,7 +39,7 @@ fn is_checked_as_before<W: CyclicWave<Item = Value>>(
     has_one_wave_at(c, before, waves, pins[0])
 }
 
-/// The faults that the checker of a number had before, where its pin is on the same wave: it has
+/// The faults that the checker of a number had before, if its pin is on the same wave: it has
 /// the same faults then.
 pub fn faults_before<'a, W: CyclicWave<Item = Value>>(
     c: &Circuit,

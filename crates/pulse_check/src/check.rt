@@ -18,7 +18,7 @@ use step_values::Value;
 use wave_core::CyclicWave;
 
 /// Appends the faults of the instance of a number. Most instances are no checkers of pulses, and
-/// are asked no more than that. Where the faults are known from before, the instance is not checked
+/// are asked no more than that. If the faults are known from before, the instance is not checked
 /// again.
 #[inline(always)]
 pub fn add_faults<W: CyclicWave<Item = Value>>(
@@ -72,7 +72,7 @@ fn all_faults<W: CyclicWave<Item = Value>>(
 
 /// The faults that these settled waves of all nets show: pulses that may be narrower than a checker
 /// asks for, by the order of expansion, of each checker that of its high pulses and then that of
-/// its low ones. What the waves permit from a tick on has no narrow pulse from there on, where the
+/// its low ones. What the waves permit from a tick on has no narrow pulse from there on, if the
 /// answer has no fault of it.
 pub fn check_pulses<W: CyclicWave<Item = Value>>(
     alloc: Global,
@@ -86,7 +86,7 @@ pub fn check_pulses<W: CyclicWave<Item = Value>>(
     all_faults(alloc, c, &None, waves)
 }
 
-/// What [`check_pulses`] answers for these waves, where the faults of each instance in others are
+/// What [`check_pulses`] answers for these waves, if the faults of each instance in others are
 /// known. A checker whose pin is on the same wave in both does not measure it again.
 pub fn check_pulses_again<W: CyclicWave<Item = Value>>(
     alloc: Global,

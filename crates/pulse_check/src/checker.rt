@@ -56,7 +56,7 @@ pub fn checked_wave<W: CyclicWave<Item = Value>>(
 
 /// The fault that a `MIN_PULSE_CHK` has of its high pulses, or of its low ones, with this least
 /// width, in slots, in place of its own: the first slot in which a narrower pulse may begin, and
-/// the least width of such a pulse. `None` exactly where there is none.
+/// the least width of such a pulse. `None` exactly if there is none.
 pub fn width_fault<W: CyclicWave<Item = Value>>(
     alloc: Global,
     c: &Circuit,

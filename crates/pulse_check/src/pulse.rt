@@ -86,7 +86,7 @@ fn narrow_at<W: CyclicWave<Item = Value>>(
     }
 }
 
-/// The first slot from this one on in which a pulse at the level may begin, or the period where
+/// The first slot from this one on in which a pulse at the level may begin, or the period if
 /// there is none.
 fn next_start<W: CyclicWave<Item = Value>>(wave: &W, level: bool, from: u16) -> u16
     requires { from ≤ length (W.cells wave.now) }

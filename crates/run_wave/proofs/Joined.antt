@@ -1,4 +1,4 @@
--- A wave beside itself some slots later, where the later one begins again once.
+-- A wave beside itself some slots later, if the later one begins again once.
 use Rattle.std.proofs.Common.{◌≡◌, ℕ, ◌-◌, ◌%◌, ◌<◌, ◌≤◌, List, [], ◌∷◌, ◌++◌, length, take, drop, refl, sym, ap, ◌∙◌, arith}
 use Rattle.std.specs.Prelude.{replicate}
 use Rattle.std.specs.List.{zip}

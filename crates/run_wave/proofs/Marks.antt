@@ -77,7 +77,7 @@ module _ {T : Type 0} where
                 ∙ ap (λ (l : List (Run T)). length (cells_of l)) (sym (take_at rs (r ∷ []) (marked_run i) whole)),
           )
 
-  -- the mark of the run that was pushed, where there was memory for it
+  -- the mark of the run that was pushed, if there was memory for it
   pub marks_pushed : (rs : List (Run T)) (r : Run T) (rs' : List (Run T)) (marks marks' : List ℕ) (begin : ℕ) (room : Bool) → rs' ≡ rs ++ r ∷ [] →
       marked_run (length marks) ≡ length rs → begin ≡ length (cells_of rs) → marks' ≡ (if room then marks ++ begin ∷ [] else marks) →
       AreMarks rs marks → AreMarks rs' marks'

@@ -274,7 +274,7 @@ module _ {T : Type 0} where
   length_with_taken old now xs end e =
       ap length e ∙ length-append old (take end xs) ∙ ap (λ (n : ℕ). length old + n) (length-take end xs)
 
--- a list whose first run is not empty while there are slots has none where that run is empty
+-- a list whose first run is not empty while there are slots has none if that run is empty
 pub none_left : (slots width : ℕ) → (0 < slots → 0 < width) → width ≤ 0 → slots ≡ 0
 none_left zero width some none = refl
 none_left (suc slots) width some none = let first : 0 < width = some (omega arith) in absurd (omega arith)

@@ -104,7 +104,7 @@ impl<T: Cell + Drop> RunList<T> {
         self.push_run(Run { cell, width })
     }
 
-    /// Appends a run, and marks it where its turn has come.
+    /// Appends a run, and marks it if its turn has come.
     fn push_run(&mut self, run: Run<T>) -> Result<(), NoMemory>
         requires room { self.old.slots + run.width < 2 ^ 16 }
         requires some { 0 < run.width }
@@ -195,7 +195,7 @@ impl<T: Cell + Drop> RunList<T> {
         (STRIDE * marks, self.marks[marks - 1])
     }
 
-    /// The run that a slot is in, and the first slot after that run. Where each slot has a run of
+    /// The run that a slot is in, and the first slot after that run. If each slot has a run of
     /// its own, as in a wave that changes in every slot, it has the slot's number.
     fn run_with(&self, slot: u16) -> (usize, u16)
         requires { slot < length (cells_of self.now.runs.items) }
@@ -254,7 +254,7 @@ impl<T: Cell + Drop> RunList<T> {
         }
     }
 
-    /// The first slot after this one that has another cell than it, or the number of slots where
+    /// The first slot after this one that has another cell than it, or the number of slots if
     /// there is none.
     pub fn same_until(&self, slot: u16) -> u16
         requires { slot < length (cells_of self.now.runs.items) }

@@ -6,7 +6,7 @@ use Rattle.scald_base.specs.Time.{Header, period}
 use Rattle.scald_base.specs.Span.{holds_unit}
 
 -- The clock without any skew, at a tick of the period: 1 in the units of its intervals, or 0 there
--- where it is complemented.
+-- if it is complemented.
 abbrev pub ideal : ClockSpec → Header → ℕ → Bool
 ideal c h tick =
     let inside = list_any (λ s. holds_unit s (tick / h.ticks)) c.spans in if c.low then not inside

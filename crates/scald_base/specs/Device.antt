@@ -15,15 +15,15 @@ next_count n = min (n + 1) (2 ^ 64 - 1)
 abbrev pub RoseByOne : ℕ → ℕ → Type 0
 RoseByOne before now = now ≡ next_count before
 
--- A failure comes only where the count of faults rose, success leaves the count as it was, and it
+-- A failure comes only if the count of faults rose, success leaves the count as it was, and it
 -- never falls.
 pub record CountsFaults {A E : Type 0} (before now : ℕ) (outcome : Result A E) : Type 0 where
   pub failed : OnErr outcome (Rose before now)
   pub steady : OnOk outcome (now ≡ before)
   pub later : before ≤ now
 
--- The source gave n bytes into the room's front. Where it tells what it has left, they were the
--- first of that: none only where there was no room, or nothing left; and after them the room is as
+-- The source gave n bytes into the room's front. If it tells what it has left, they were the
+-- first of that: none only if there was no room, or nothing left; and after them the room is as
 -- it was.
 pub record Gives (left left' : Option (List ℕ)) (room room' : List ℕ) (n : ℕ) : Type 0 where
   pub fits : n ≤ length room'
@@ -31,7 +31,7 @@ pub record Gives (left left' : Option (List ℕ)) (room room' : List ℕ) (n : �
   pub none : n ≡ 0 → 0 < length room' → IfSome left (λ _. IsAtEnd left')
   pub rest : IfSome left (λ _. drop n room' ≡ drop n room)
 
--- The sink took the first n bytes of the piece, at least one where there is one.
+-- The sink took the first n bytes of the piece, at least one if there is one.
 pub record Takes (taken taken' : Option (List ℕ)) (piece : List ℕ) (n : ℕ) : Type 0 where
   pub fits : n ≤ length piece
   pub some : 0 < length piece → 0 < n

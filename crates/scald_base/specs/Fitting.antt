@@ -22,7 +22,7 @@ IntervalsFit h (Stable spans) = SpansFit h spans
 abbrev pub skew_of : ClockSpec → (ℕ × ℕ) → (ℕ × ℕ)
 skew_of c default = unwrap_or c.skew default
 
--- Where each edge moves by itself, two regions that share a slot leave the clock's shape open.
+-- If each edge moves by itself, two regions that share a slot leave the clock's shape open.
 abbrev pub EdgesOverlap : Header → AssertSpec → Type 0
 EdgesOverlap h (Clock c) =
     let skew = skew_of c h.cskew in SharesSlot c h skew.0 skew.1 ⊎ IsTooWide c h skew.0 skew.1

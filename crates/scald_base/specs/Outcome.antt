@@ -25,7 +25,7 @@ ended FailedRead = ReadFault
 ended FailedWrite = WriteFault
 ended OutOfMemory = NoMemory
 
--- the end that an outcome is of, where it says nothing of the text
+-- the end that an outcome is of, if it says nothing of the text
 abbrev pub end_of : Outcome → Option CallEnd
 end_of Clean = None
 end_of (Faulty n) = None

@@ -5,7 +5,7 @@ use Rattle.scald_base.specs.declared.assertion.Span.{Span}
 use Rattle.scald_base.specs.Time.{Header, period}
 use Rattle.scald_base.specs.Span.{begin_tick, end_tick}
 
--- Slot p is the step from tick p - 1 to tick p. It is quiet where both are inside the interval: the
+-- Slot p is the step from tick p - 1 to tick p. It is quiet if both are inside the interval: the
 -- step into the interval is not.
 abbrev pub quiet_inside : Header → ℕ → Span → Bool
 quiet_inside h slot s =

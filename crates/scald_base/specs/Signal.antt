@@ -4,6 +4,6 @@ use Rattle.std.specs.Prelude.{ℕ, Bool, not, if◌then◌else◌}
 abbrev pub Signal : Type 0
 Signal = ℕ → Bool
 
--- complemented, where a pin or an output is marked so
+-- complemented, if a pin or an output is marked so
 abbrev pub turned : Bool → Bool → Bool
 turned inverted bit = if inverted then not bit else bit

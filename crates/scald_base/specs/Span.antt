@@ -13,7 +13,7 @@ pub record SpanFits (units : ℕ) (s : Span) : Type 0 where
 abbrev pub span_fits : ℕ → Span → Bool
 span_fits units s = nat_lt s.lo units && nat_le s.hi units && not (s.lo == s.hi)
 
--- The unit is of the interval, which goes over the period's end where hi is the lesser.
+-- The unit is of the interval, which goes over the period's end if hi is the lesser.
 abbrev pub holds_unit : Span → ℕ → Bool
 holds_unit s unit =
     if nat_lt s.lo s.hi
@@ -24,6 +24,6 @@ holds_unit s unit =
 abbrev pub begin_tick : Header → Span → ℕ
 begin_tick h s = s.lo * h.ticks
 
--- the tick before which it ends, in the next period where it goes over the end of this one
+-- the tick before which it ends, in the next period if it goes over the end of this one
 abbrev pub end_tick : Header → Span → ℕ
 end_tick h s = if nat_lt s.lo s.hi then s.hi * h.ticks else s.hi * h.ticks + period h

@@ -6,7 +6,7 @@ pub record Bounds : Type 0 where
   pub min : ℕ
   pub max : ℕ
 
--- A period is so many units of so many ticks. Wires and clocks have these bounds where nothing else
+-- A period is so many units of so many ticks. Wires and clocks have these bounds if nothing else
 -- is said of them.
 pub record Header : Type 0 where
   pub units : ℕ

@@ -2,7 +2,7 @@
 
 use crate::list::List;
 
-/// From unit `lo` to unit `hi`, over the end of the period where `hi` is the lesser.
+/// From unit `lo` to unit `hi`, over the end of the period if `hi` is the lesser.
 #[derive(Clone, Copy, PartialEq, Eq, Debug)]
 pub struct Span {
     pub lo: u16,
@@ -31,7 +31,7 @@ pub type Spans = List<Span>;
 pub struct ClockSpec {
     /// Where the clock is 1.
     pub spans: Spans,
-    /// By how many ticks an edge may come early and late, where the name says it.
+    /// By how many ticks an edge may come early and late, if the name says it.
     pub skew: Option<(u16, u16)>,
     /// The clock is complemented.
     pub low: bool,

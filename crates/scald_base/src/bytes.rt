@@ -118,7 +118,7 @@ impl Bytes {
         self.items.as_slice()
     }
 
-    /// Puts a byte at the end. Where memory runs out the bytes are as before.
+    /// Puts a byte at the end. If memory runs out the bytes are as before.
     pub fn push(&mut self, byte: u8) -> Result<(), NoMemory>
         ensures ok { OnOk result (self.new ≡ self.old ++ byte ∷ []) }
         ensures err { OnErr result (self.new ≡ self.old) }
@@ -127,7 +127,7 @@ impl Bytes {
         Ok(())
     }
 
-    /// Puts bytes at the end. Where memory runs out they are as before.
+    /// Puts bytes at the end. If memory runs out they are as before.
     pub fn extend(&mut self, bytes: &[u8]) -> Result<(), NoMemory>
         ensures ok { OnOk result (self.new ≡ self.old ++ bytes.now) }
         ensures err { OnErr result (self.new ≡ self.old) }

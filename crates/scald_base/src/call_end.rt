@@ -5,7 +5,7 @@
 #[derive(Clone, Copy, PartialEq, Eq, Debug)]
 pub enum CallEnd {
     /// The words are unrecognised. The number is that of the first with which no form continues,
-    /// from 0, or the count of words where one is missing. Nothing is read or written.
+    /// from 0, or the count of words if one is missing. Nothing is read or written.
     BadWords(u32),
     /// More bytes came than the program reads. Nothing is written.
     TooLong,

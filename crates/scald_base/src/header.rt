@@ -35,7 +35,7 @@ impl Delay {
 }
 
 /// What the head of a drawing says. The period is `units` of `ticks` each, 2 to 4,096 ticks. Wires
-/// have the bounds `wire` where no other are set, and clocks without a skew of their own have
+/// have the bounds `wire` if no other are set, and clocks without a skew of their own have
 /// `pskew` (for `.P`) or `cskew` (for `.C`): how many ticks early and late, at most 4,095 each.
 #[derive(Clone, Copy, PartialEq, Eq, Debug)]
 pub struct Header {

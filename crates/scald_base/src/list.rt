@@ -105,7 +105,7 @@ impl<T> List<T> {
 }
 
 impl<T: Drop> List<T> {
-    /// Appends an item. Where memory runs out the list is as before, and the item is dropped.
+    /// Appends an item. If memory runs out the list is as before, and the item is dropped.
     pub fn push(&mut self, item: T) -> Result<(), NoMemory>
         ensures ok { OnOk result (self.new ≡ self.old ++ item ∷ []) }
         ensures err { OnErr result (self.new ≡ self.old) }

@@ -41,7 +41,7 @@ impl Model for MemorySource {
 }
 
 impl MemorySource {
-    /// A source of these bytes. Call n, from 0, fails where n is in `failing`. It needs no
+    /// A source of these bytes. Call n, from 0, fails if n is in `failing`. It needs no
     /// allocation.
     pub fn new(bytes: Bytes, piece: u32, failing: Calls) -> MemorySource
         requires { 1 ≤ piece }

@@ -21,7 +21,7 @@ pub enum Outcome {
     /// order from 0, is the first that still changes: the line that names it is written.
     Unsettled { net: u32, round: u32 },
     /// The words are unrecognised. The number is that of the first with which no form continues,
-    /// from 0, or the count of words where one is missing. Nothing is read or written.
+    /// from 0, or the count of words if one is missing. Nothing is read or written.
     BadWords(u32),
     /// More bytes came than a text may have. Nothing is written.
     TooLong,
@@ -48,9 +48,9 @@ impl Outcome {
     }
 }
 
-/// The status that a program ends with: 0 where there is no fault, 1 with faults, 2 refused, 3
-/// unsettled, 4 for bad words, 5 for a text that is too long, 6 and 7 where reading or writing
-/// failed, 8 where memory ran out.
+/// The status that a program ends with: 0 if there is no fault, 1 with faults, 2 refused, 3
+/// unsettled, 4 for bad words, 5 for a text that is too long, 6 and 7 if reading or writing
+/// failed, 8 if memory ran out.
 pub fn status(outcome: &Outcome) -> u8
     ensures { result ≡ status_of outcome.now }
 {

@@ -8,7 +8,7 @@ use crate::source::Failed;
 
 /// A sink for bytes.
 pub trait Sink {
-    /// The bytes that were taken so far, where the sink tells them.
+    /// The bytes that were taken so far, if the sink tells them.
     ghost taken: { Self → Option (List ℕ) };
 
     /// How often a write failed. The count never falls.
@@ -18,9 +18,9 @@ pub trait Sink {
     /// it; one that says how far promises it here.
     ghost rises: { ℕ → ℕ → Type 0 } = { Rose };
 
-    /// Takes bytes from the front of the piece, and says how many: at least one where there is one.
-    /// `Failed` comes only where the count of faults rose. Where the sink tells its bytes, they
-    /// grew by exactly those, and by none where the write failed.
+    /// Takes bytes from the front of the piece, and says how many: at least one if there is one.
+    /// `Failed` comes only if the count of faults rose. If the sink tells its bytes, they
+    /// grew by exactly those, and by none if the write failed.
     fn write(&mut self, piece: &[u8]) -> Result<usize, Failed>
         ensures takes { IfOk result (λ n. Takes (taken self.old) (taken self.new) piece.now n) }
         ensures kept { OnErr result (Keeps (taken self.old) (taken self.new)) }

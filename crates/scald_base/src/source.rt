@@ -10,7 +10,7 @@ pub struct Failed;
 
 /// A source of bytes.
 pub trait Source {
-    /// The bytes that are left to read, where the source tells them.
+    /// The bytes that are left to read, if the source tells them.
     ghost left: { Self → Option (List ℕ) };
 
     /// How often a read failed. The count never falls.
@@ -21,9 +21,9 @@ pub trait Source {
     ghost rises: { ℕ → ℕ → Type 0 } = { Rose };
 
     /// Reads bytes into the front of the room, and says how many. `Ok(0)` on a room that is not
-    /// empty is the end. `Failed` comes only where the count of faults rose. Where the source tells
-    /// its bytes, those that came were the first, none come exactly where the room is empty or no
-    /// byte is left, and nothing was read where the read failed.
+    /// empty is the end. `Failed` comes only if the count of faults rose. If the source tells
+    /// its bytes, those that came were the first, none come exactly if the room is empty or no
+    /// byte is left, and nothing was read if the read failed.
     fn read(&mut self, room: &mut [u8]) -> Result<usize, Failed>
         ensures gives { IfOk result (λ n.
             Gives (left self.old) (left self.new) room.old room.new n) }

@@ -54,9 +54,9 @@ impl From<Failed> for WriteFault {
 /// How many bytes one read asks for at most.
 const ROOM: usize = 4096;
 
-/// Reads to the end of input. It answers `TooLong` where more than `limit` bytes come, and reads
+/// Reads to the end of input. It answers `TooLong` if more than `limit` bytes come, and reads
 /// only one past them; `ReadFault` at the first read that fails, after which it reads no more; and
-/// `NoMemory`. What is said of bytes is proved where the source tells them.
+/// `NoMemory`. What is said of bytes is proved if the source tells them.
 pub fn read_all<S: Source>(alloc: Global, source: &mut S, limit: u32) -> Result<Bytes, ReadEnd>
     requires { limit < 2 ^ 32 - 1 }
     ensures ok { IfOk result (λ bytes.
@@ -90,7 +90,7 @@ pub fn read_all<S: Source>(alloc: Global, source: &mut S, limit: u32) -> Result<
 }
 
 /// Writes all bytes. It answers `WriteFault` at the first write that fails, after which it writes
-/// no more: where the sink tells its bytes, it took a front of these, and not all.
+/// no more: if the sink tells its bytes, it took a front of these, and not all.
 pub fn write_all<K: Sink>(sink: &mut K, bytes: &[u8]) -> Result<(), WriteFault>
     ensures ok { OnOk result (Appends (K.taken sink.old) (K.taken sink.new) bytes.now) }
     ensures err { OnErr result (TakesFront (K.taken sink.old) (K.taken sink.new) bytes.now) }

@@ -1,4 +1,4 @@
--- No token begins exactly where there is a cause of refusal.
+-- No token begins exactly if there is a cause of refusal.
 use Rattle.std.proofs.Common.{◌≡◌, ℕ, suc, ◌+◌, ◌-◌, ◌*◌, ◌<◌, ◌≤◌, Bool, true, false, ◌||◌, cond, nat_le, List, [], ◌∷◌, ◌++◌, length, get_or, take, drop, Option, Some, None, pos, refl, ap, sym, subst, ◌∙◌, arith, length-drop, eqb-true, eq-eqb}
 use Rattle.std.specs.Prelude.{◌==◌, codes}
 use Rattle.std.specs.List.{prefix_len, list_all}
@@ -22,7 +22,7 @@ use Rattle.scald_lex.proofs.OneOf.{one_of, left_stray, left_break, digit_alone}
 use Rattle.scald_lex.proofs.Pieces.{chosen, dash_chosen, by_first_byte, front_some}
 use Rattle.scald_lex.proofs.Spelt.{all_pass, word_form}
 
--- ---- where there is a cause, nothing begins
+-- ---- if there is a cause, nothing begins
 
 -- how far a front of bytes that pass goes
 front_over : (p : ℕ → Bool) (xs ys : List ℕ) → list_all p xs ≡ true → prefix_len p ys ≡ 0 →
@@ -137,7 +137,7 @@ some_over : (xs ys : List ℕ) → 0 < length xs → 0 < length (xs ++ ys)
 some_over [] ys h = absurd (omega arith)
 some_over (x ∷ xs) ys h = omega arith
 
--- There is a byte at least where there is a cause.
+-- There is a byte at least if there is a cause.
 pub caused_some : (rest : List ℕ) → HasCause rest → 0 < length rest
 caused_some rest (open_name is) = rw is.parts (omega arith)
 caused_some rest (long_word is) = let l = is.long in rw is.parts
@@ -145,7 +145,7 @@ caused_some rest (long_word is) = let l = is.long in rw is.parts
 caused_some rest (large_number is) = rw is.parts (some_over is.digits is.behind is.some)
 caused_some rest (stray_byte is) = rw is.parts (omega arith)
 
--- ---- what each piece says of the bytes, and where nothing begins, there is a cause
+-- ---- what each piece says of the bytes, and if nothing begins, there is a cause
 
 pub record IsDashed (b : ℕ) (bs : List ℕ) (count : ℕ) : Type 0 where
   pub first : b ≡ 45
@@ -271,7 +271,7 @@ pub allowed_behind : (text : List ℕ) (at : ℕ) → IsAllowed text → IsAllow
 allowed_behind text at allowed k h = ap is_allowed (get_or-drop at text k 0)
     ∙ allowed (at + k) (omega (arith, length-drop at text))
 
--- Where nothing begins in an allowed text, there is a cause.
+-- If nothing begins in an allowed text, there is a cause.
 pub none_caused : (text : List ℕ) (at : ℕ) → IsAllowed text → at < length text →
     piece_at (drop at text) ≡ None → HasCause (drop at text)
 none_caused text at allowed h e = caused_by (drop at text) (omega (arith, length-drop at text))

@@ -103,7 +103,7 @@ stands_here text at o p q e is same = sym (ap piece_at (take_rest text at)) ∙ 
 pub none_here : (text : List ℕ) (at : ℕ) (o : Option Piece) → o ≡ piece_at (take (length text - at) (drop at text)) → o ≡ None → piece_at (drop at text) ≡ None
 none_here text at o e is = sym (ap piece_at (take_rest text at)) ∙ sym e ∙ is
 
--- Where no piece begins the text is refused.
+-- If no piece begins the text is refused.
 pub refused_here : (text : List ℕ) (s : Scan) → IsRead text s → IsAllowed text → s.at < length text → piece_at (drop s.at text) ≡ None → IsRefused text (record { kind = BadToken; place = s.place })
 refused_here text s read allowed more none = bad_token s.at
     (record { allowed = allowed; within = more; pieces = read.pieces; before = read.cut; bad = none })

@@ -11,7 +11,7 @@ differs : (p : ℕ → Bool) (a b : ℕ) → p a ≡ false → p b ≡ true → 
 differs p a b none h false e = refl
 differs p a b none h true e = absurd (let same : b ≡ a = eqb-true b a e in let k : p b ≡ p a = ap p same in cc)
 
--- Where a test is false of one byte, what passes it is another.
+-- If a test is false of one byte, what passes it is another.
 pub unlike : (p : ℕ → Bool) (a : ℕ) → p a ≡ false → (b : ℕ) → p b ≡ true → not (b == a) ≡ true
 unlike p a none b h = differs p a b none h (b == a) refl
 
@@ -20,7 +20,7 @@ further_step true true m n h k = omega arith
 further_step true false m n h k = absurd (let e : false ≡ true = h refl in cc)
 further_step false c m n h k = omega arith
 
--- Where more bytes pass, the front goes no less far.
+-- If more bytes pass, the front goes no less far.
 pub further : (p q : ℕ → Bool) → ((b : ℕ) → p b ≡ true → q b ≡ true) → (xs : List ℕ) → prefix_len p xs ≤ prefix_len q xs
 further p q h [] = omega arith
 further p q h (x ∷ xs) = further_step (p x) (q x) (prefix_len p xs) (prefix_len q xs) (h x) (further p q h xs)

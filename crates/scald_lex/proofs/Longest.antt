@@ -74,7 +74,7 @@ no_letter_digit b h k = grind (arith, nat_tests)
 
 -- ---- each piece
 
--- No text of so many bytes is a token, where they are more than the piece has.
+-- No text of so many bytes is a token, if they are more than the piece has.
 abbrev AtMost : ℕ → ℕ → List ℕ → ℕ → Piece → Type 0
 AtMost b c cs n (Lexeme kind count) = (other : TokenKind) → count < suc (suc n) → n ≤ length cs → Spells other (b ∷ c ∷ take n cs) → ⊥
 AtMost b c cs n Space = Unit {0}

@@ -9,8 +9,7 @@ use Rattle.scald_lex.specs.Between.{DashesAt, IsGap}
 use Rattle.scald_lex.specs.Causes.{HasCause}
 
 -- A token stands at its place: it spells its kind, no longer text from there on is one of a token,
--- and there is neither a
--- comment nor a cause of refusal there.
+-- and there is neither a comment nor a cause of refusal there.
 pub record IsTaken (text : List ℕ) (t : Token) : Type 0 where
   pub is : IsTokenOf text t
   pub longest : (other : TokenKind) (end : ℕ) → t.end < end → end ≤ length text →

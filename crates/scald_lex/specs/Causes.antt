@@ -1,4 +1,4 @@
--- Why no token can be taken where a text goes on with these bytes. Each cause is said of the bytes
+-- Why no token can be taken if a text goes on with these bytes. Each cause is said of the bytes
 -- alone, without pieces.
 use Rattle.std.specs.Prelude.{◌≡◌, ℕ, ◌<◌, ◌==◌, Bool, true, List, [], ◌∷◌, ◌++◌, codes, length, ⊤}
 use Rattle.std.specs.List.{list_any, list_all}

@@ -45,7 +45,7 @@ dash_before rest =
     else if begins_with tip rest then Lexeme Arrow 2
     else Lexeme (Symbol dash) 1
 
--- By the first byte. None where nothing begins there.
+-- By the first byte. None if nothing begins there.
 unfoldable pub piece_at : List ℕ → Option Piece
 piece_at [] = None
 piece_at (b ∷ bs) =

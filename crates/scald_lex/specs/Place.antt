@@ -8,7 +8,7 @@ use Rattle.scald_lex.specs.Bytes.{line_end}
 abbrev pub first_place : Place
 first_place = record { line = 1; col = 1 }
 
--- the place after a byte: the next line's first where it ends the line
+-- the place after a byte: the next line's first if it ends the line
 abbrev pub next_place : Place → ℕ → Place
 next_place p b =
     if b == line_end then record { line = p.line + 1; col = 1 }
@@ -29,7 +29,7 @@ pub record IsPlaceOf (text : List ℕ) (place : Place) : Type 0 where
   pub within : at ≤ length text
   pub is : place ≡ place_at text at
 
--- Where reading stops with a refusal, it has such a place.
+-- If reading stops with a refusal, it has such a place.
 abbrev pub IsPlacedStop : List ℕ → Stop → Type 0
 IsPlacedStop text (Refused r) = IsPlaceOf text r.place
 IsPlacedStop text NoMemory = ⊤

@@ -1,6 +1,6 @@
 //! The tokens of a text: words, numbers, names in quotes, arrows and symbols, each with its place.
 //!
-//! The layer above calls `packed_tokens`, or `tokens` where they are few. `specs/Tokens` says which
+//! The layer above calls `packed_tokens`, or `tokens` if they are few. `specs/Tokens` says which
 //! tokens a text is, and why and where it is refused; `specs/Piece` which piece a text begins with,
 //! `specs/Place` how places count, and `specs/Laws` what holds of every text, as `laws` proves it.
 //! `specs/Apart` says the same tokens and refusals without pieces, by what lies between tokens

@@ -15,7 +15,7 @@ pub const GREATEST_NUMBER: u64 = 9223372036854775807;
 /// The most bytes of a word.
 const LONGEST_WORD: usize = 64;
 
-/// A piece of a text, with how many bytes it takes where that is not one.
+/// A piece of a text, with how many bytes it takes if that is not one.
 #[derive(Clone, Copy, PartialEq, Eq, Debug)]
 pub enum Piece {
     /// A byte between tokens.
@@ -28,7 +28,7 @@ pub enum Piece {
     Lexeme(TokenKind, usize),
 }
 
-/// The piece in front, or `None` exactly where none begins there.
+/// The piece in front, or `None` exactly if none begins there.
 #[tactic(auto, unfolding(crate::specs::Piece::piece_at))]
 pub fn front(rest: &[u8]) -> Option<Piece>
     ensures { result ≡ piece_at rest.now }
@@ -96,7 +96,7 @@ fn comment_bytes(rest: &[u8]) -> usize
         .count()
 }
 
-/// The value of digits, or the greatest number of 64 bits where it is greater.
+/// The value of digits, or the greatest number of 64 bits if it is greater.
 fn value(digits: &[u8]) -> u64
     ensures { result ≡ min (value_of digits.now) (2 ^ 64 - 1) }
 {

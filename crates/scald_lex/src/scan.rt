@@ -38,7 +38,7 @@ pub fn tokens(alloc: Global, text: &[u8]) -> Result<TokenList, Stop>
 }
 
 /// The tokens of the text, the last of which is its end. Refused are, with their places, `BadByte`
-/// before any token is looked at, and `BadToken` where no token begins, or one that is too long,
+/// before any token is looked at, and `BadToken` if no token begins, or one that is too long,
 /// too large or not closed. A refusal has the place of a byte of the text. It takes memory for the
 /// list alone.
 pub fn packed_tokens(alloc: Global, text: &[u8]) -> Result<PackedList, Stop>

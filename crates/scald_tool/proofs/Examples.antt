@@ -149,7 +149,7 @@ words_of_forms :
     Ok (Verify Full None) ∷ Ok (Verify Waves None) ∷ Ok (Verify Faults None) ∷ Ok Format ∷ Ok Upgrade ∷ []
 words_of_forms = refl
 
--- Words of a form that reads are told what the source has left, and nothing where it tells nothing.
+-- Words of a form that reads are told what the source has left, and nothing if it tells nothing.
 told : (left : List ℕ) → AreTold (verify ∷ []) (Some left) left
 told left = by_source refl
 

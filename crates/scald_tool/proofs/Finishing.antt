@@ -29,7 +29,7 @@ verdict_finished n = either (n == 0) n
     either true n = refl
     either false n = refl
 
--- what a form replies to a text, where that is finished
+-- what a form replies to a text, if that is finished
 pub record Finishes (command : Command) (text : List ℕ) : Type 0 where
   pub outcome : Outcome
   pub bytes : List ℕ

@@ -161,7 +161,7 @@ past_limit Full n x (Bench m) rest e = absurd (omega (arith, ap length e))
 past_limit Waves n x command rest e = absurd (omega (arith, ap length e, three_at_most command))
 past_limit Faults n x command rest e = absurd (omega (arith, ap length e, three_at_most command))
 
--- the word is none of a mode where none was named yet
+-- the word is none of a mode if none was named yet
 abbrev IsNoMode : Mode → List ℕ → Type 0
 IsNoMode Full w = (w ≢ codes "waves") × (w ≢ codes "faults")
 IsNoMode mode w = Unit {0}

@@ -63,7 +63,7 @@ reports_are_promised mode rounds text o bytes is has = (
       p.never).text,
 )
 
--- Where the report counts no fault, what has no fault is all there is.
+-- If the report counts no fault, what has no fault is all there is.
 pub clean_never_breaks : (mode : Mode) (rounds : Option ℕ) (text : List ℕ) (o : Outcome)
     (bytes : List ℕ) →
     Verified mode rounds text o bytes → o ≡ Clean → FaultlessNeverBreaks text → NeverBreaks text

@@ -47,7 +47,7 @@ abbrev pub Verified : Mode → Option ℕ → List ℕ → Outcome → List ℕ 
 Verified mode = Evaluated (λ d. Reported mode d.version)
 
 -- What `bench` answers, on the drawing of so many sections and at its own limit: what `verify` does
--- where that is refused or does not settle, and else its numbers.
+-- if that is refused or does not settle, and else its numbers.
 abbrev pub Benched : ℕ → Outcome → List ℕ → Type 0
 Benched sections = Evaluated (λ d. Measured sections) None (datapath sections)
 

@@ -22,7 +22,7 @@ pub data Passes (text : List ℕ) : Command → Type 0 where
       Passes text (Verify mode rounds)
   benched : (sections : ℕ) → TextSettles None (datapath sections) → Passes text (Bench sections)
 
--- To words of a form, and a text that is not too long where the form reads and that passes every
+-- To words of a form, and a text that is not too long if the form reads and that passes every
 -- stage, the answer is the one that they have, with exactly its bytes, and it is finished.
 abbrev pub IsFinished : List (List ℕ) → List ℕ → Outcome → Option (List ℕ) → Option (List ℕ) →
     Type 0

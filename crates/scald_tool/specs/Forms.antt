@@ -1,4 +1,6 @@
 -- The forms of words, spelled out: which words ask for what, and where words of no form go wrong.
+-- `Words` reads them; a law says that the two agree. N of `rounds=N` is the number whose decimal
+-- text the digits are, so signs and leading zeros need no rule.
 use Rattle.std.specs.Prelude.{◌≡◌, ◌≢◌, ℕ, ◌+◌, ◌≤◌, ◌<◌, List, [], ◌∷◌, ◌++◌, length, take, codes, decimal, Option, Some, None, IfSome, Result, Ok, Err, ⊤}
 use Rattle.listing.specs.declared.case.Mode.{Mode}
 use Rattle.listing.specs.declared.case.Mode.TheVariants.{Full, Waves, Faults}
@@ -38,7 +40,7 @@ pub record GoesOn (front : List (List ℕ)) : Type 0 where
   pub is : front ++ rest ≡ words_for command
 
 -- No form has these words, and this is the number of the first with which no form goes on, or their
--- count where one is missing.
+-- count if one is missing.
 pub record GoesWrong (words : List (List ℕ)) (i : ℕ) : Type 0 where
   pub no_form : (command : Command) → MayBeAsked command → words ≢ words_for command
   pub within : i ≤ length words

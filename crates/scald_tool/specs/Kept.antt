@@ -7,7 +7,7 @@ use Rattle.timing_analysis.specs.Drawn.{IsLoopless}
 use Rattle.timing_analysis.specs.Promise.{FaultlessNeverBreaks, NeverBreaks}
 use Rattle.scald_tool.specs.Promise.{has_report, may_give, unlimited}
 
--- The form may have this outcome; waves without loops settle, where no limit is set; and what has
+-- The form may have this outcome; waves without loops settle, if no limit is set; and what has
 -- no fault is never broken.
 pub record IsPromised (command : Command) (text : List ℕ) (o : Outcome) : Type 0 where
   pub given : may_give command o ≡ true

@@ -13,8 +13,8 @@ use Rattle.scald_tool.specs.Answer.{Verified, verifier}
 
 -- ---- the answer
 
--- What the words are answered to: the bytes that the source has left, where it tells them; and any
--- bytes where the words are of no form that reads, since then the answer is the same to all.
+-- What the words are answered to: the bytes that the source has left, if it tells them; and any
+-- bytes if the words are of no form that reads, since then the answer is the same to all.
 abbrev pub AreTold : List (List ℕ) → Option (List ℕ) → List ℕ → Type 0
 AreTold = program.AreTold verifier
 
@@ -92,7 +92,7 @@ abbrev pub may_answer : Result Command ℕ → Outcome → Bool
 may_answer (Ok command) o = may_give command o
 may_answer (Err i) o = false
 
--- the text whose circuit is evaluated, where no limit of rounds is asked for
+-- the text whose circuit is evaluated, if no limit of rounds is asked for
 abbrev pub unlimited : Command → List ℕ → Option (List ℕ)
 unlimited (Verify mode None) text = Some text
 unlimited (Verify mode (Some limit)) text = None
@@ -100,7 +100,7 @@ unlimited Format text = None
 unlimited Upgrade text = None
 unlimited (Bench sections) text = Some (datapath sections)
 
--- Where the words set no limit, and the circuit of the text that is evaluated has no loop through
+-- If the words set no limit, and the circuit of the text that is evaluated has no loop through
 -- listening pins, its waves settle.
 abbrev pub SettlesWithoutLoops : List (List ℕ) → List ℕ → Outcome → Type 0
 SettlesWithoutLoops words text o =

@@ -1,5 +1,5 @@
--- The forms of words that the program has: `verify`, then `waves` or `faults` where one is asked
--- for alone, then `rounds=N` where the rounds are to be so many at most; `format`; `upgrade`; and
+-- The forms of words that the program has: `verify`, then `waves` or `faults` if one is asked
+-- for alone, then `rounds=N` if the rounds are to be so many at most; `format`; `upgrade`; and
 -- `bench N`.
 use Rattle.std.specs.Prelude.{ℕ, ◌+◌, ◌≤◌, Bool, true, false, List, [], ◌∷◌, codes, Option, Some, None, IfSome, Result, Ok, Err, if◌then◌else◌, ⊤}
 use Rattle.std.specs.Str.{bytes_eq}
@@ -28,7 +28,7 @@ abbrev pub with_limit : Mode → ℕ → Option ℕ → List (List ℕ) → Resu
 with_limit mode place None others = Err place
 with_limit mode place (Some n) others = alone (Verify mode (Some n)) (place + 1) others
 
--- the words from this number on, where a mode is known
+-- the words from this number on, if a mode is known
 abbrev pub behind_mode : Mode → ℕ → List (List ℕ) → Result Command ℕ
 behind_mode mode place [] = Ok (Verify mode None)
 behind_mode mode place (w ∷ ws) = with_limit mode place (rounds_of w) ws
@@ -50,7 +50,7 @@ behind_bench [] = Err 1
 behind_bench (w ∷ ws) = with_sections (number_in most_sections w) ws
 
 -- The form that the words have. Of other words it is the number of the first with which no form
--- goes on, or the count of words where one is missing.
+-- goes on, or the count of words if one is missing.
 abbrev pub command_of : List (List ℕ) → Result Command ℕ
 command_of [] = Err 0
 command_of (w ∷ ws) =

@@ -30,7 +30,7 @@ pub fn reports_are_promised()
 
 /// The whole call over devices that never fail, of which nothing is asked: the answer is the one
 /// that the words and the bytes of the source have, or no memory. It is a report or what else was
-/// asked for where the words are of a form and the text passes every stage of it.
+/// asked for if the words are of a form and the text passes every stage of it.
 pub fn answers_over_sure_devices(
     alloc: Global,
     words: &Words,

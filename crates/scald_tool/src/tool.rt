@@ -19,11 +19,11 @@ use std::alloc::Global;
 /// source gives, or its canonical text, or that of the same circuit in the last version of the
 /// language, or the numbers of the report on a generated drawing.
 ///
-/// Where the words are of a form that reads, the source is read to its end, or to the first byte
+/// If the words are of a form that reads, the source is read to its end, or to the first byte
 /// past 4,194,304, or to its first fault. All of the answer is made before the first byte of it is
 /// written.
 ///
-/// Where a report was written, `undriven` is how many nets have neither a driver nor an assertion,
+/// If a report was written, `undriven` is how many nets have neither a driver nor an assertion,
 /// and are set by no case; nothing is proved of it.
 pub fn tool_main<S: Source, K: Sink>(
     alloc: Global,

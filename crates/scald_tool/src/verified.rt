@@ -14,7 +14,7 @@ use std::alloc::Global;
 use step_values::Value;
 use wave_core::CyclicWave;
 
-/// What `verify` answers to a text of fewer than 4,294,967,295 bytes, in this mode and, where a
+/// What `verify` answers to a text of fewer than 4,294,967,295 bytes, in this mode and, if a
 /// number is given, with at most so many rounds of the base and of each case, at most 10,000,000.
 /// It is the same whichever kind of waves is chosen.
 ///

@@ -13,7 +13,7 @@ const MOST_SECTIONS: u32 = 200;
 /// What the program is asked for.
 #[derive(Clone, Copy, PartialEq, Eq, Debug)]
 pub enum Command {
-    /// `verify`: the report on a drawing, whole or in part, and how many rounds there may be where
+    /// `verify`: the report on a drawing, whole or in part, and how many rounds there may be if
     /// that is asked for, 1 to 10,000,000.
     Verify { mode: Mode, rounds: Option<u32> },
     /// `format`: the canonical text of a drawing.
@@ -34,8 +34,8 @@ impl Command {
     }
 }
 
-/// What the words ask for. Where they are unrecognised, `Err` is the number of the first with which
-/// no form continues, from 0, or the count of words where one is missing.
+/// What the words ask for. If they are unrecognised, `Err` is the number of the first with which
+/// no form continues, from 0, or the count of words if one is missing.
 pub fn read_words(words: &Words) -> Result<Command, u32>
     ensures is { result ≡ command_of words.now }
     ensures within { IfOk result IsWithin }
@@ -56,7 +56,7 @@ pub fn read_words(words: &Words) -> Result<Command, u32>
     }
 }
 
-/// The command, where no word follows those that ask for it. Such a word would have this number.
+/// The command, if no word follows those that ask for it. Such a word would have this number.
 fn alone(command: Command, place: u32, others: &[Bytes]) -> Result<Command, u32>
     requires { IsWithin command }
     ensures is { result ≡ alone command place others.now }
@@ -83,7 +83,7 @@ fn behind_verify(words: &[Bytes]) -> Result<Command, u32>
     }
 }
 
-/// What the words from this number on ask for, where the mode is known.
+/// What the words from this number on ask for, if the mode is known.
 fn behind_mode(mode: Mode, place: u32, words: &[Bytes]) -> Result<Command, u32>
     requires { place < 3 }
     ensures is { result ≡ behind_mode mode place words.now }

@@ -60,7 +60,7 @@ module _ (whole : List Circuit) (c : Circuit) (settling : Settling) (run : Run) 
       subst (AreLong c) (sym waves_are)
       (round_long c (is_driven c) (section_start whole c) settling.rounds some known (section_start_long whole c))
 
-  -- The settled waves permit the first n ticks, where what comes in keeps its assertions in them.
+  -- The settled waves permit the first n ticks, if what comes in keeps its assertions in them.
   pub settling_permits : (n : ℕ) → n ≤ run.ticks → InputsKeep whole c run n →
       PermitFront c run n settling.waves (settling.rounds * reach c + 1)
   settling_permits n inside inputs =
@@ -78,7 +78,7 @@ module _ (whole : List Circuit) (c : Circuit) (settling : Settling) (run : Run) 
       ∙ next_driven c (round c (is_driven c) (section_start whole c) settling.rounds) i k driven
       ∙ (λ j. evaluated c (sym waves_are j) i)
 
-  -- A net whose driver takes a tick at least keeps its assertion at a tick past the printed one, where
+  -- A net whose driver takes a tick at least keeps its assertion at a tick past the printed one, if
   -- what comes in keeps its assertions before that tick, and the section has no fault.
   pub step_ahead : (t i k : ℕ) (net : Net) (j : Instance) → t < run.ticks → tick_of c settling < t → InputsKeep whole c run t →
       slice_get c.nets i ≡ Some net → net.driver ≡ Some k → slice_get c.instances k ≡ Some j → 1 ≤ j.delay.min →

@@ -127,7 +127,7 @@ assertion_alike (Precision a) = clock_alike a
 assertion_alike (Clock a) = clock_alike a
 assertion_alike (Stable a) = spans_alike a
 
--- a test of assertions that is true where they are the same tells the same
+-- a test of assertions that is true if they are the same tells the same
 pub tells_same : (a b : AssertSpec) (test : Bool) → MatchBool test (a ≡ b) (a ≢ b) → test ≡ same_assertion a b
 tells_same a b true is = sym (subst (λ (s : AssertSpec). same_assertion a s ≡ true) is (assertion_alike a))
 tells_same a b false differ = same_truth false (same_assertion a b) (λ e. absurd (cc)) (λ alike. absurd (differ (assertion_is a b alike)))

@@ -36,7 +36,7 @@ pub never_so : {A E : Type 0} (r : Result A E) (outcome : A → SectionsOutcome)
 never_so (Ok x) outcome o other P is differ = λ same. absurd (differ (sym is ∙ same))
 never_so (Err e) outcome o other P is differ = tt
 
--- the same where the numbers, or the refusal, are called otherwise
+-- the same if the numbers, or the refusal, are called otherwise
 pub unsettled_so : {A E : Type 0} (r : Result A E) (outcome : A → SectionsOutcome) (bytes : A → List ℕ) (section n k n' k' : ℕ) (line : ℕ → ℕ → List ℕ)
     (P : SectionsOutcome → List ℕ → Type 0) → n' ≡ n → k' ≡ k → IfOk r (λ x. outcome x ≡ Unsettled section n' k') → IfOk r (λ x. bytes x ≡ line n' k') →
     P (Unsettled section n k) (line n k) → IfOk r (λ x. P (outcome x) (bytes x))

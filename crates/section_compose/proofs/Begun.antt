@@ -1,4 +1,4 @@
--- A section whose rounds begin with the nets of a case coming in is one of the whole, where these are the
+-- A section whose rounds begin with the nets of a case coming in is one of the whole, if these are the
 -- nets that come from other sections.
 use Rattle.std.proofs.Common.{◌≡◌, List, slice_get, subst}
 use Rattle.flat_circuit.specs.declared.case.CaseValue.{CaseValue}

@@ -1,4 +1,4 @@
--- The nets of one class begin with one wave, where the nets that come from elsewhere are a case by which
+-- The nets of one class begin with one wave, if the nets that come from elsewhere are a case by which
 -- the classes are stable.
 use Rattle.std.proofs.Common.{◌≡◌, ℕ, Bool, true, false, List, [], ◌∷◌, sym, ap, ◌∙◌, slice_get, Option, Some, is_some}
 use Rattle.std.proofs.lemmas.List.Elements.{All-head}

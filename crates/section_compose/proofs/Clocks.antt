@@ -31,7 +31,7 @@ wide_same h k a same =
 period_same : (h k : Header) → SameClocks h k → period h ≡ period k
 period_same h k same = λ i. same.units i * same.ticks i
 
--- a net keeps its assertion in one section where it does in another
+-- a net keeps its assertion in one section if it does in another
 pub keeps_same : (h k : Header) (a b : AssertSpec) (x y : Signal) (t : ℕ) → SameClocks h k → a ≡ b → x ≡ y →
     KeepsAssertion h a x t → KeepsAssertion k b y t
 keeps_same h k a b x y t same spec bits keeps =

@@ -58,7 +58,7 @@ module _ (whole : List Circuit) (c : Circuit) (n : ℕ) (values : List CaseValue
         ∙ ap (λ (b : Bool). b && across whole c i) (sym (below_next i n));
   }
 
--- one net more, which is set where it comes in
+-- one net more, which is set if it comes in
 pub case_next : (whole : List Circuit) (c : Circuit) (n : ℕ) (values more : List CaseValue) (comes : Bool) → comes ≡ across whole c n → n < length c.nets →
     more ≡ cond comes (values ++ record { net = n; one = false } ∷ []) values → IsCaseTo whole c n values → IsCaseTo whole c (n + 1) more
 case_next whole c n values more true comes below put so_far =

@@ -66,7 +66,7 @@ some_line : (line : List ℕ) → 0 < length line → unended line ≡ line ∷ 
 some_line [] some = absurd (omega arith)
 some_line (b ∷ line) some = refl
 
--- A line goes to the end of the text where no byte 10 ends it.
+-- A line goes to the end of the text if no byte 10 ends it.
 pub line_is_last : (text line : List ℕ) (at : ℕ) → length text ≤ at → 0 < length line →
     lines_after line (drop at text) ≡ line ∷ lines (drop at text)
 line_is_last text line at past some =

@@ -147,7 +147,7 @@ three : {A : Type 0} (P : ℕ → A → Type 0) (a b c : A) → P 0 a → P 1 b 
 three P a b c pa pb pc zero x is = subst (P 0) (same_Some a x is) pa
 three P a b c pa pb pc (suc i) x is = two (λ j. P (suc j)) b c pb pc i x is
 
--- the bits of net i, where there is a run
+-- the bits of net i, if there is a run
 abbrev row_in : ℕ → Option Run → List Bool
 row_in i r = elim r as (λ r. List Bool) [ None ↦ [] | Some run ↦ slice_index_or run.bits i [] ]
 
@@ -350,7 +350,7 @@ leaves_at_four keep =
 leaves_at_the_last : ¬ KeepsOn (whole narrow 1) runs 5 3
 leaves_at_the_last keeps = leaves_at_four (keeps.kept 4 (omega arith) (omega arith))
 
--- ---- wholes that break, where /Q keeps its assertion at each tick that is asked for
+-- ---- wholes that break, if /Q keeps its assertion at each tick that is asked for
 
 breaks_hold : ¬ NeverBreaksWhole (whole wide 2) 2
 breaks_hold never =

@@ -23,7 +23,7 @@ later whole T U c below r = record {
   sooner = let sooner = r.sooner in omega (arith, sooner, below);
 }
 
--- Where no fault is counted, each section is so.
+-- If no fault is counted, each section is so.
 pub each_settles : (whole sections : List Circuit) (settlings : List Settling) → AllSettled whole sections settlings →
     all_faults sections settlings ≡ 0 → (s : ℕ) (c : Circuit) → slice_get sections s ≡ Some c →
     SettlesClean whole (greatest_tick sections settlings) c

@@ -186,6 +186,6 @@ module _ (whole : List Circuit) (T : ℕ) (joined : AreJoined whole)
       unbroken = unbroken;
     }
 
-  -- Where sections without a fault are joined, nothing of the whole breaks.
+  -- If sections without a fault are joined, nothing of the whole breaks.
   pub never_breaks : NeverBreaksWhole whole T
   never_breaks runs ticks is early = keeps_on runs ticks is early

@@ -27,7 +27,7 @@ none_at p [] i x none is = absurd (cc)
 none_at p (y ∷ ys) zero x none is = let same : y ≡ x = cc in subst (λ z. p z ≡ false) same (or_left (p y) (list_any p ys) none)
 none_at p (y ∷ ys) (suc i) x none is = none_at p ys i x (or_right (p y) (list_any p ys) none) is
 
--- where a test finds one
+-- if a test finds one
 pub record Finds {X : Type 0} (p : X → Bool) (xs : List X) : Type 0 where
   pub at : ℕ
   pub found : X

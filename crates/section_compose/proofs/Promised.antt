@@ -1,4 +1,4 @@
--- Where the report on the sections of a text is that nothing is wrong, nothing of their whole breaks.
+-- If the report on the sections of a text is that nothing is wrong, nothing of their whole breaks.
 use Rattle.std.proofs.Common.{◌≡◌, ℕ, zero, suc, ◌<◌, Bool, true, false, cond, List, [], ◌∷◌, slice_get, refl, subst, Some, None}
 use Rattle.std.specs.Prelude.{◌==◌, Err, IfOk, Ok, Result}
 use Rattle.std.specs.List.{AllZip}

@@ -1,4 +1,4 @@
--- A broken rule is of a section that there is, and where it is one of nets of a place in their order.
+-- A broken rule is of a section that there is, and if it is one of nets of a place in their order.
 use Rattle.std.proofs.Common.{◌≡◌, ℕ, suc, ◌+◌, ◌<◌, Bool, true, false, if◌then◌else◌, List, [], ◌∷◌, ◌++◌, length}
 use Rattle.std.proofs.Common.{slice_get, refl, sym, ap, ◌∙◌, arith, true≢false, Option, Some, None}
 use Rattle.scald_base.specs.Time.{Header}

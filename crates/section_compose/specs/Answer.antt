@@ -59,7 +59,7 @@ pub record HasSections (text : List ℕ) (sections : List Section) : Type 0 wher
 
 -- ---- the answer to a text
 
--- What is answered, by outcome and bytes: how many sections there are, where there are too few or
+-- What is answered, by outcome and bytes: how many sections there are, if there are too few or
 -- too many; or why the first section is refused that is; or what is said of drawn sections: the
 -- first rule that they break, or the first that never settles, or the report.
 pub data Joined (text : List ℕ) : SectionsOutcome → List ℕ → Type 0 where

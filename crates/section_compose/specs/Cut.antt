@@ -2,13 +2,13 @@
 use Rattle.std.specs.Prelude.{ℕ, ◌==◌, Bool, List, [], ◌∷◌, ◌++◌, codes, if◌then◌else◌, ◌||◌}
 use Rattle.std.specs.Str.{bytes_eq}
 
--- a last line, which no byte 10 ends, where there is one
+-- a last line, which no byte 10 ends, if there is one
 abbrev pub unended : List ℕ → List (List ℕ)
 unended [] = []
 unended (byte ∷ line) = (byte ∷ line) ∷ []
 
 -- The lines of a text, each with the byte 10 that ends it, after the front of a line. What follows
--- the last byte 10 is a line too, where it is not empty.
+-- the last byte 10 is a line too, if it is not empty.
 abbrev pub lines_after : List ℕ → List ℕ → List (List ℕ)
 lines_after line [] = unended line
 lines_after line (byte ∷ text) =

@@ -75,7 +75,7 @@ AllSettled whole (c ∷ sections) (settling ∷ settlings) =
 abbrev pub NeverSettles : List Circuit → Circuit → ℕ → Type 0
 NeverSettles whole c place = IsUnsettled c.order (section_round whole c) (default_limit c) place
 
--- the first section that never settles, where each before it does
+-- the first section that never settles, if each before it does
 pub record StopsAt (whole : List Circuit) (s place : ℕ) : Type 0 where
   pub circuit : Circuit
   pub circuit_is : slice_get whole s ≡ Some circuit

@@ -28,7 +28,7 @@ stands_in name c = list_any (has_name name) c.nets
 abbrev pub is_driven_in : Name → Circuit → Bool
 is_driven_in name c = list_any (λ (net : Net). has_name name net && is_driven net) c.nets
 
--- A net crosses where one section drives it and it stands in another.
+-- A net crosses if one section drives it and it stands in another.
 abbrev pub crosses_by : List Circuit → Name → Bool
 crosses_by whole name =
     begins_with_slash name.text

@@ -47,7 +47,7 @@ pub record KeepsOn (whole : List Circuit) (runs : List Run) (ticks T : ℕ) : Ty
       slice_get runs s ≡ Some run →
       ¬ Breaks c run T
 
--- In every run of the whole, of any length and from any start: where each net that crosses keeps
+-- In every run of the whole, of any length and from any start: if each net that crosses keeps
 -- its assertion at each tick of 1 to T, nothing breaks from T on.
 abbrev pub NeverBreaksWhole : List Circuit → ℕ → Type 0
 NeverBreaksWhole whole T =

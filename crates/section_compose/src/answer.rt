@@ -54,7 +54,7 @@ pub fn answer(alloc: Global, text: &[u8]) -> Result<Reply<SectionsOutcome>, NoMe
     }
 }
 
-/// The answer where there are so many sections, which are too few or too many.
+/// The answer if there are so many sections, which are too few or too many.
 fn bad_count(alloc: Global, count: u32) -> Reply<SectionsOutcome>
     ensures outcome { result.outcome ≡ SectionsOutcome.BadCount count }
     ensures bytes { result.bytes ≡ [] }
@@ -128,7 +128,7 @@ fn broken_in(sections: &[Section], broken: Broken) -> &Circuit
     &sections[broken.section as usize - 1].circuit
 }
 
-/// The answer where all sections are drawn.
+/// The answer if all sections are drawn.
 fn joined(alloc: Global, sections: &[Section]) -> Result<Reply<SectionsOutcome>, NoMemory>
     requires { AreEnough (length sections.now) }
     ensures { IfOk result (λ reply. Concluded sections.now reply.outcome reply.bytes) }
@@ -139,7 +139,7 @@ fn joined(alloc: Global, sections: &[Section]) -> Result<Reply<SectionsOutcome>,
     }
 }
 
-/// The answer where the sections break no rule: the report, or the first section that does not
+/// The answer if the sections break no rule: the report, or the first section that does not
 /// settle.
 fn settled(alloc: Global, sections: &[Section]) -> Result<Reply<SectionsOutcome>, NoMemory>
     requires enough { AreEnough (length sections.now) }

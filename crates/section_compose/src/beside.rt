@@ -26,7 +26,7 @@ enum Standing {
     Untaken,
 }
 
-/// Where the sections of a text lie; nowhere where memory runs out, or the text is too long.
+/// Where the sections of a text lie; nowhere if memory runs out, or the text is too long.
 pub(crate) fn pieces_of(alloc: Global, text: &[u8]) -> List<Piece> {
     if u32::MAX as usize <= text.len() {
         return List::new(alloc);

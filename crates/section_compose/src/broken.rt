@@ -11,6 +11,13 @@ use flat_circuit::{Net, is_same_assertion};
 use scald_base::{AssertSpec, Place};
 use std::alloc::Global;
 
+/// A text of sections, and where each lies in it.
+#[derive(Clone, Copy)]
+struct SectionText<'a> {
+    text: &'a [u8],
+    pieces: &'a [Piece],
+}
+
 /// What is wrong with a section by itself.
 fn header_sentence(rule: Rule) -> &'static [u8] {
     match rule {
@@ -65,12 +72,12 @@ fn is_beside(rule: Rule, net: &Net, section: &Section) -> bool {
 }
 
 /// The lines of a section, counted from 0, and how many lines of the text stand before it.
-fn lines_at<'a>(text: &'a [u8], pieces: &[Piece], section: usize) -> (&'a [u8], u32) {
-    match pieces.get(section) {
+fn lines_at<'a>(all: SectionText<'a>, section: usize) -> (&'a [u8], u32) {
+    match all.pieces.get(section) {
         Some(piece) => {
-            let before = newlines(part(text, 0, piece.from));
+            let before = newlines(part(all.text, 0, piece.from));
             (
-                part(text, piece.from, piece.to),
+                part(all.text, piece.from, piece.to),
                 before.min(4_194_304) as u32,
             )
         }
@@ -100,15 +107,8 @@ fn add_site(out: &mut Lines, text: &[u8], place: Option<Place>, before: u32) {
 }
 
 /// What is said of a section that breaks a rule by itself.
-fn add_header(
-    alloc: Global,
-    out: &mut Lines,
-    text: &[u8],
-    pieces: &[Piece],
-    rule: Rule,
-    section: usize,
-) {
-    let (lines, before) = lines_at(text, pieces, section);
+fn add_header(alloc: Global, out: &mut Lines, all: SectionText, rule: Rule, section: usize) {
+    let (lines, before) = lines_at(all, section);
     let word: &[u8] = match rule {
         Rule::Case => b"CASE",
         _ => b"CLOCK",
@@ -119,15 +119,14 @@ fn add_header(
         Part::Text(word),
         Part::Text(b" stands"),
     ]);
-    add_site(out, text, place_of_word(alloc, lines, word), before);
+    add_site(out, all.text, place_of_word(alloc, lines, word), before);
 }
 
 /// What is said of a net that breaks a rule in one section beside another, both counted from 0.
 fn add_net(
     alloc: Global,
     out: &mut Lines,
-    text: &[u8],
-    pieces: &[Piece],
+    all: SectionText,
     rule: Rule,
     net: &Net,
     section: usize,
@@ -143,15 +142,15 @@ fn add_net(
         Part::Text(net_sentence(rule)),
         Part::Number(number),
     ]);
-    let (lines, before) = lines_at(text, pieces, section);
+    let (lines, before) = lines_at(all, section);
     out.put(b"    here it stands");
     add_site(
         out,
-        text,
+        all.text,
         place_of_name(alloc, lines, net.name.as_slice()),
         before,
     );
-    let (lines, before) = lines_at(text, pieces, other);
+    let (lines, before) = lines_at(all, other);
     out.add(&[
         Part::Text(b"    in section "),
         Part::Number(number),
@@ -159,7 +158,7 @@ fn add_net(
     ]);
     add_site(
         out,
-        text,
+        all.text,
         place_of_name(alloc, lines, net.name.as_slice()),
         before,
     );
@@ -169,31 +168,22 @@ fn add_net(
 fn add_broken(
     alloc: Global,
     out: &mut Lines,
-    text: &[u8],
-    pieces: &[Piece],
+    all: SectionText,
     sections: &[Section],
     broken: Broken,
 ) {
     let section = (broken.section as usize).saturating_sub(1);
-    let from = pieces.get(section).map_or(0, |piece| piece.from);
-    add_section(out, text, from, broken.section);
+    let from = all.pieces.get(section).map_or(0, |piece| piece.from);
+    add_section(out, all.text, from, broken.section);
     match broken.rule {
-        Rule::Case | Rule::Clock => add_header(alloc, out, text, pieces, broken.rule, section),
+        Rule::Case | Rule::Clock => add_header(alloc, out, all, broken.rule, section),
         rule => {
             if let Some(net) = net_of(sections, section, broken.net) {
                 let other = sections
                     .iter()
                     .position(|section| is_beside(rule, net, section));
-                add_net(
-                    alloc,
-                    out,
-                    text,
-                    pieces,
-                    rule,
-                    net,
-                    section,
-                    other.unwrap_or(section),
-                );
+                let other = other.unwrap_or(section);
+                add_net(alloc, out, all, rule, net, section, other);
             }
         }
     }
@@ -217,7 +207,11 @@ pub fn explain_broken(alloc: Global, text: &[u8]) -> Lines {
         return out;
     }
     if let Some(broken) = first_broken(sections) {
-        add_broken(alloc, &mut out, text, pieces.as_slice(), sections, broken);
+        let all = SectionText {
+            text,
+            pieces: pieces.as_slice(),
+        };
+        add_broken(alloc, &mut out, all, sections, broken);
     }
     out
 }

@@ -34,14 +34,14 @@ fn line_end(text: &[u8], from: usize) -> usize
     at
 }
 
-/// Whether a line, with the byte 10 that ends it where there is one, is one that ends a section.
+/// Whether a line, with the byte 10 that ends it if there is one, is one that ends a section.
 fn is_separator(line: &[u8]) -> bool
     ensures { result ≡ is_separator line.now }
 {
     line == b"=====\n".as_slice() || line == b"=====".as_slice()
 }
 
-/// Where the sections of a text lie, in their order. There is one at least. `NoMemory` comes where
+/// Where the sections of a text lie, in their order. There is one at least. `NoMemory` comes if
 /// memory runs out.
 pub fn sections_of(alloc: Global, text: &[u8]) -> Result<List<Piece>, NoMemory>
     requires { length text.now < 2 ^ 32 - 1 }

@@ -49,7 +49,7 @@ fn comes_in(sections: &[Section], c: &Circuit, net: u32) -> bool
     }
 }
 
-/// Sets a net in a case, where it comes from another section.
+/// Sets a net in a case, if it comes from another section.
 fn add_where(case: &mut Case, net: u32, comes: bool) -> Result<(), NoMemory>
     ensures { OnOk result (case.new
         ≡ (if comes then case.old ++ record { net = net; one = false } ∷ [] else case.old)) }
@@ -61,8 +61,8 @@ fn add_where(case: &mut Case, net: u32, comes: bool) -> Result<(), NoMemory>
     }
 }
 
-/// The nets that come from other sections, as a case that sets them: so the classes of nets tell
-/// them from nets that nothing drives.
+/// The nets that come from other sections, as a case that sets them: so the classes of nets keep
+/// them apart from nets that nothing drives.
 fn crossing_case(alloc: Global, sections: &[Section], c: &Circuit) -> Result<Case, NoMemory>
     ensures { IfOk result (IsCase (circuits sections.now) c.now) }
 {
@@ -129,7 +129,7 @@ fn section_start<W: CyclicWave<Item = Value>>(
     Ok(numbers)
 }
 
-/// The rounds of a section until they settle, by one net of each class where nothing tells the nets
+/// The rounds of a section until they settle, by one net of each class if nothing tells the nets
 /// of a class apart, and else by each net. The waves are answered by their numbers in the store.
 fn settled<W: CyclicWave<Item = Value>>(
     alloc: Global,
@@ -164,8 +164,8 @@ fn settled<W: CyclicWave<Item = Value>>(
     )
 }
 
-/// A settled section, with its faults. `Unsettled` comes where it does not settle within its limit
-/// of rounds, and `NoMemory` where memory runs out.
+/// A settled section, with its faults. `Unsettled` comes if it does not settle within its limit
+/// of rounds, and `NoMemory` if memory runs out.
 pub fn settled_section<W: CyclicWave<Item = Value>>(
     alloc: Global,
     sections: &[Section],

@@ -6,7 +6,7 @@
 //! alone. `specs/Cut` says which sections a text has, `specs/Rules` which rule they break first,
 //! and `specs/Joined` what it is worth that they break none; `specs/Evaluated` how one is
 //! evaluated, and `specs/Answer` what is answered. `specs/Whole` says what the sections are
-//! together: the whole circuit, its runs, and what never breaks in them where no section has a
+//! together: the whole circuit, its runs, and what never breaks in them if no section has a
 //! fault.
 #![tactic(auto)]
 

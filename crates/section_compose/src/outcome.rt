@@ -32,7 +32,7 @@ pub enum SectionsOutcome {
     /// There are so many sections, which is not 2 to 64. Nothing is written.
     BadCount(u32),
     /// A section breaks a rule of sections that are joined, 24 to 29, and with which net, or 0
-    /// where the rule is one of sections: the line that says so is written.
+    /// if the rule is one of sections: the line that says so is written.
     BadSection { section: u32, rule: u8, net: u32 },
 }
 
@@ -62,9 +62,9 @@ impl SectionsOutcome {
     }
 }
 
-/// The status that a program ends with: 0 where there is no fault, 1 with faults, 2 refused, 3
-/// unsettled, 4 for bad words, 5 for a text that is too long, 6 and 7 where reading or writing
-/// failed, 8 where memory ran out, 9 for a wrong number of sections, 10 where a rule of sections is
+/// The status that a program ends with: 0 if there is no fault, 1 with faults, 2 refused, 3
+/// unsettled, 4 for bad words, 5 for a text that is too long, 6 and 7 if reading or writing
+/// failed, 8 if memory ran out, 9 for a wrong number of sections, 10 if a rule of sections is
 /// broken.
 pub fn sections_status(outcome: &SectionsOutcome) -> u8
     ensures { result ≡ status_of outcome.now }

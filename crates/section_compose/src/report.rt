@@ -149,7 +149,7 @@ fn add_sections(out: &mut Bytes, sections: u32, tick: u64) -> Result<(), NoMemor
 
 // ---- in place of a report
 
-/// The answer where a section, counted from 1, is refused.
+/// The answer if a section, counted from 1, is refused.
 pub fn refused(
     alloc: Global,
     section: u32,
@@ -168,7 +168,7 @@ pub fn refused(
     })
 }
 
-/// The answer where a section, counted from 1, does not settle.
+/// The answer if a section, counted from 1, does not settle.
 pub fn unsettled(
     alloc: Global,
     section: u32,
@@ -238,7 +238,7 @@ fn add_broken_net(out: &mut Bytes, broken: Broken, circuit: &Circuit) -> Result<
     )
 }
 
-/// The answer where a section breaks a rule of sections that are joined.
+/// The answer if a section breaks a rule of sections that are joined.
 pub fn bad_section(
     alloc: Global,
     broken: Broken,

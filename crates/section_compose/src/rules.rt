@@ -60,7 +60,7 @@ impl Rule {
 }
 
 /// A rule that a section breaks. Sections count from 1; the net is its position in name order
-/// there, from 0, or 0 where the rule is one of sections.
+/// there, from 0, or 0 if the rule is one of sections.
 #[derive(Clone, Copy, PartialEq, Eq, Debug)]
 pub struct Broken {
     pub rule: Rule,
@@ -174,7 +174,7 @@ fn global_rule(before: &[Section], net: &Net) -> Option<Rule>
     }
 }
 
-/// The rule that the net of a number breaks, where there is one.
+/// The rule that the net of a number breaks, if there is one.
 fn global_rule_at(before: &[Section], circuit: &Circuit, number: u32) -> Option<Rule>
     ensures { result ≡ rule_at (global_rule (circuits before.now))
         (slice_get circuit.now.nets number) }
@@ -227,7 +227,7 @@ fn is_at_once(circuit: &Circuit, net: &Net) -> bool
     }
 }
 
-/// The rule that a net of this circuit breaks which its section drives, where it crosses.
+/// The rule that a net of this circuit breaks which its section drives, if it crosses.
 fn crossing_rule(sections: &[Section], circuit: &Circuit, net: &Net) -> Option<Rule>
     ensures { result ≡ crossing_rule (circuits sections.now) circuit.now net.now }
 {
@@ -242,7 +242,7 @@ fn crossing_rule(sections: &[Section], circuit: &Circuit, net: &Net) -> Option<R
     }
 }
 
-/// The rule that the net of a number breaks, where there is one.
+/// The rule that the net of a number breaks, if there is one.
 fn crossing_rule_at(sections: &[Section], circuit: &Circuit, number: u32) -> Option<Rule>
     ensures { result
         ≡ rule_at (crossing_rule (circuits sections.now) circuit.now)

@@ -20,8 +20,8 @@ pub struct Section {
     pub has_case: bool,
 }
 
-/// The section that a text of fewer than 4,294,967,295 bytes draws; or `Refused`, where it draws no
-/// drawing, or that has no circuit; or `NoMemory`, where memory runs out. The place of a refusal
+/// The section that a text of fewer than 4,294,967,295 bytes draws; or `Refused`, if it draws no
+/// drawing, or that has no circuit; or `NoMemory`, if memory runs out. The place of a refusal
 /// counts from the first byte of this text.
 pub fn read_section(alloc: Global, text: &[u8]) -> Result<Section, Stop>
     requires { length text.now < 2 ^ 32 - 1 }

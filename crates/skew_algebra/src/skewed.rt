@@ -14,7 +14,9 @@ use wave_core::{Cell, CyclicWave, joined_from};
 
 /// A wave, and the most ticks by which the whole of it may be late, in normal form: a steady wave
 /// has one cell in all slots, a wave of one cell has no skew, and no skew reaches a period.
-/// Contracts see its cells and its skew.
+/// Contracts see its cells and its skew as one value. The fields are hidden and the normal form is
+/// the invariant, so no other crate can make another, and clauses compare waves as they are. No
+/// theorem needs the normal form.
 #[derive(Drop)]
 pub struct Skewed<W: CyclicWave> {
     wave: W,
@@ -29,7 +31,7 @@ impl<W: CyclicWave> Model for Skewed<W> {
     ghost invariant = { λ s. IsNormal W.Item.kind (skewed (W.cells s.wave) s.skew) };
 }
 
-/// The skew that a wave of some change needs: none where all its cells are the same, since it is
+/// The skew that a wave of some change needs: none if all its cells are the same, since it is
 /// the same however late it comes, and less than a period.
 fn capped<W: CyclicWave>(wave: &W, skew: u16) -> u16
     ensures { result ≡ (if equal W.Item.kind

@@ -1,4 +1,4 @@
--- What the cover of a set permits, and what a value permits where it is quiet.
+-- What the cover of a set permits, and what a value permits if it is quiet.
 use Rattle.std.proofs.Common.{◌≡◌, Bool, true, arith}
 use Rattle.step_values.specs.declared.value.Value.{Value}
 use Rattle.step_values.specs.declared.value.Value.TheVariants.{S}

@@ -59,7 +59,7 @@ pub at_step : (p : Bool → Bool → Bool) → each_bit (λ a. each_bit (p a)) �
     (before after : Bool) → p before after ≡ true
 at_step p h before after = at_bit (p before) (at_bit (λ a. each_bit (p a)) h before) after
 
--- two tests of two values are one where they agree at each
+-- two tests of two values are one if they agree at each
 pub tests_are : (p q : Value → Value → Bool) →
     each_value (λ v. each_value (λ w. agree (p v w) (q v w))) ≡ true → (v w : Value) → p v w ≡ q v w
 tests_are p q h v w = agree_is (p v w) (q v w) (at_values (λ v w. agree (p v w) (q v w)) h v w)

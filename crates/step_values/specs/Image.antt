@@ -69,12 +69,12 @@ mux2_image = image3 mux2_step
 
 -- Storage: a rule says which output it allows at a tick after which output at the tick before.
 
--- A register keeps its output, but where its clock rises it takes in its input, which is left open
+-- A register keeps its output, but when its clock rises it takes in its input, which is left open
 -- here.
 abbrev pub reg_rule : Bool → Bool → Steps
 reg_rule clock clock' before after = (not clock && clock') || agree before after
 
--- A latch follows its input where its enable is 1, and keeps its output elsewhere.
+-- A latch follows its input while its enable is 1, and else keeps its output.
 abbrev pub latch_rule : Bool → Bool → Steps
 latch_rule enable input before after = agree after (if enable then input else before)
 
@@ -97,7 +97,7 @@ latch_rs_rule enable input set reset before after =
 abbrev pub allowed : Steps → Bool → Bool
 allowed rule output = some_bit (λ older. rule older output)
 
--- what a register's rule allows where its clock may have been either bit at the tick before
+-- what a register's rule allows if its clock may have been either bit at the tick before
 abbrev pub any_clock : (Bool → Steps) → Steps
 any_clock rule before after = some_bit (λ earlier. rule earlier before after)
 
@@ -134,7 +134,7 @@ latch_image = image2 latch_step
 unfoldable pub latch_rs_image : Value → Value → Value → Value → Steps
 latch_rs_image = image4 latch_rs_step
 
--- The value of each, which is U only where some argument is.
+-- The value of each, which is U only if some argument is.
 
 unfoldable pub and_of : Value → Value → Value
 and_of a b = cover (and_image a b) (is_unknown a || is_unknown b)

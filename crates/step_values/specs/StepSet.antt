@@ -17,7 +17,7 @@ in_set bits before after = not (bit_and bits (step_bit before after) == 0)
 abbrev pub IsSet : ℕ → Steps → Type 0
 IsSet bits steps = (before after : Bool) → in_set bits before after ≡ steps before after
 
--- the steps where they are wanted, else none
+-- the steps if they are wanted, else none
 abbrev pub only_if : Bool → Steps → Steps
 only_if wanted steps before after = wanted && steps before after
 

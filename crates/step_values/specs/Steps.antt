@@ -17,7 +17,7 @@ has F before after = before || not after
 has C before after = true
 has U before after = true
 
--- The least of 0, 1, S, R, F and C that permits the steps 00, 01, 10, 11 that are there. Where all
+-- The least of 0, 1, S, R, F and C that permits the steps 00, 01, 10, 11 that are there. If all
 -- four are, and an argument was unknown, it is U. No value permits no step at all.
 abbrev pub cover_of : Bool → Bool → Bool → Bool → Bool → Value
 cover_of true true true true true = U
@@ -40,7 +40,7 @@ is_unknown _ = false
 abbrev pub is_quiet : Value → Bool
 is_quiet v = not (has v false true) && not (has v true false)
 
--- The least value above both; nothing is known of it where nothing is known of one of them.
+-- The least value above both; nothing is known of it if nothing is known of one of them.
 abbrev pub join : Value → Value → Value
 join v w =
     cover (λ before after. has v before after || has w before after) (is_unknown v || is_unknown w)

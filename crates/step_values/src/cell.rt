@@ -15,7 +15,7 @@ impl Cell for Value {
 
     ghost equal = { tests_are _ _ refl };
 
-    /// The least value that permits what either permits; U where one of them is U.
+    /// The least value that permits what either permits; U if one of them is U.
     #[inline]
     fn join(self, other: Value) -> Value {
         match self {

@@ -1,6 +1,6 @@
 //! The choices of a step.
 
-/// The union of what a function makes of each step of a value: it is told whether the value permits
+/// The union of what a function makes of each step of a value: it gets whether the value permits
 /// the step, the step, and the rest.
 macro_rules! each_step {
     ($value:expr, $steps:ident($($rest:expr),*)) => {{

@@ -22,17 +22,9 @@ pub fn steps(v: Value) -> StepSet
     }
 }
 
-/// The least of 0, 1, S, R, F and C that permits each step of the set, or U where all four steps
-/// are there and `saw_unknown` says that they come of an unknown value.
+/// The least of 0, 1, S, R, F and C that permits each step of the set, or U if all four steps are
+/// there and `saw_unknown` says that they come of an unknown value. It is 1 if the set has no step.
 pub fn cover(s: StepSet, saw_unknown: bool) -> Value
-    requires { 0 < s }
-    ensures { result ≡ cover (in_set s) saw_unknown }
-{
-    least_cover(s, saw_unknown)
-}
-
-/// That cover, which is 1 where the set has no step.
-pub fn least_cover(s: StepSet, saw_unknown: bool) -> Value
     ensures { result ≡ cover (in_set s) saw_unknown }
 {
     let (low, high) = (s.contains(false, false), s.contains(true, true));

@@ -6,17 +6,17 @@ ghost use Rattle.step_values.specs.Image.{image1, image2, mux2_image, mux2_of, m
 ghost use Rattle.step_values.specs.StepSet.{IsSet, only_if};
 
 use crate::choices::each_step;
-use crate::covering::least_cover;
+use crate::covering::cover;
 use crate::step_set::{Step, StepSet};
 use crate::value::Value;
 
-/// The value of the input that a select names: of the second value where the select is 1.
+/// The value of the input that a select names: of the second value if the select is 1.
 #[tactic(auto, unfolding(crate::specs::Image::mux2_of))]
 pub fn mux2_value(select: Value, a: Value, b: Value) -> Value
     ensures { result ≡ mux2_of select a b }
 {
     let unknown = select.is_unknown() || a.is_unknown() || b.is_unknown();
-    least_cover(mux2_image(select, a, b), unknown)
+    cover(mux2_image(select, a, b), unknown)
 }
 
 /// The steps of a multiplexer.
@@ -54,8 +54,8 @@ fn mux2_with_input(wanted: bool, a: Step, select: Step, b: Value) -> StepSet
 
 /// That of one step of each.
 fn mux2_step(wanted: bool, b: Step, select: Step, a: Step) -> StepSet
-    ensures { IsSet result (λ before after.
-        wanted && mux2_step select.before select.after a.before a.after b.before b.after before after) }
+    ensures { IsSet result (λ before after. wanted
+        && mux2_step select.before select.after a.before a.after b.before b.after before after) }
 {
     let from = if select.before { b.before } else { a.before };
     let to = if select.after { b.after } else { a.after };

@@ -12,7 +12,7 @@ pub fn cover_is_least()
     ensures { CoverIsLeast }
 {}
 
-/// A cover is U just where all four steps are there and an argument was unknown.
+/// A cover is U exactly if all four steps are there and an argument was unknown.
 pub fn cover_is_unknown()
     ensures { CoverIsUnknown }
 {}
@@ -37,7 +37,7 @@ pub fn join_is_orderless()
     ensures { JoinIsOrderless }
 {}
 
-/// The flipped value permits the complement of a step just where the value permits the step.
+/// The flipped value permits the complement of a step exactly if the value permits the step.
 pub fn flip_complements()
     ensures { FlipComplements }
 {}

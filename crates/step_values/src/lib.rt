@@ -3,7 +3,7 @@
 //! A step is the bit before and the bit after. As a `Cell` a value is joined and complemented in
 //! waves; the evaluators above look up what a gate or a storage element makes of its arguments, by
 //! `look2` to `look4` in the tables `and2` to `latch_rs`, or work out one entry, by `mux2_value` to
-//! `latch_rs_value`, where few are wanted. `specs/Steps` says what a value permits,
+//! `latch_rs_value`, if few are wanted. `specs/Steps` says what a value permits,
 //! `specs/Image` what each element makes of values, and `specs/Laws` what holds of all values.
 #![tactic(auto)]
 

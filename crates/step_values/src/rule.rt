@@ -19,7 +19,7 @@ macro_rules! steps_of {
     };
 }
 
-/// What a register allows where its clock makes this step. Its input is left open.
+/// What a register allows if its clock makes this step. Its input is left open.
 fn reg_allows(clock: Step, before: bool, after: bool) -> bool
     ensures { result ≡ reg_rule clock.before clock.after before after }
 {

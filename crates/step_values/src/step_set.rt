@@ -79,7 +79,7 @@ impl StepSet {
         StepSet { bits: 0 }
     }
 
-    /// The one step from `before` to `after`, where it is wanted.
+    /// The one step from `before` to `after`, if it is wanted.
     pub fn one_if(wanted: bool, before: bool, after: bool) -> StepSet
         ensures { (b b' : Bool) → in_set result b b' ≡ (wanted && one_step before after b b') }
     {
@@ -115,7 +115,7 @@ impl StepSet {
         )
     }
 
-    /// Itself where it is wanted, else no step.
+    /// Itself if it is wanted, else no step.
     pub fn only_if(self, wanted: bool) -> StepSet
         ensures { IsSet result (only_if wanted (in_set self)) }
     {

@@ -7,7 +7,7 @@ ghost use Rattle.step_values.specs.Image.{image1, image2, image3, image4, latch_
 ghost use Rattle.step_values.specs.StepSet.{IsSet, only_if};
 
 use crate::choices::each_step;
-use crate::covering::least_cover;
+use crate::covering::cover;
 use crate::rule::{earlier_reg_rs_steps, latch_rs_steps, latch_steps, reg_rs_steps};
 use crate::step_set::{Step, StepSet};
 use crate::value::Value;
@@ -29,7 +29,7 @@ pub fn reg(v: Value) -> Value
 pub fn latch_value(enable: Value, input: Value) -> Value
     ensures { result ≡ latch_of enable input }
 {
-    least_cover(
+    cover(
         latch_image(enable, input),
         enable.is_unknown() || input.is_unknown(),
     )
@@ -72,7 +72,7 @@ pub fn reg_rs_value(clock: Value, set: Value, reset: Value) -> Value
     ensures { result ≡ reg_rs_of clock set reset }
 {
     let unknown = clock.is_unknown() || set.is_unknown() || reset.is_unknown();
-    least_cover(reg_rs_image(clock, set, reset), unknown)
+    cover(reg_rs_image(clock, set, reset), unknown)
 }
 
 /// The steps of a register with set and reset.
@@ -129,7 +129,7 @@ pub fn latch_rs_value(enable: Value, input: Value, set: Value, reset: Value) -> 
 {
     let data_unknown = enable.is_unknown() || input.is_unknown();
     let unknown = data_unknown || set.is_unknown() || reset.is_unknown();
-    least_cover(latch_rs_image(enable, input, set, reset), unknown)
+    cover(latch_rs_image(enable, input, set, reset), unknown)
 }
 
 /// The steps of a latch with set and reset.
@@ -162,8 +162,8 @@ fn latch_rs_with_enable(
 /// Those of one step of the enable and of the input.
 #[tactic(auto, unfolding(crate::specs::Image::image2))]
 fn latch_rs_with_input(wanted: bool, input: Step, enable: Step, set: Value, reset: Value) -> StepSet
-    ensures { IsSet result
-        (only_if wanted (image2 (latch_rs_step enable.before enable.after input.before input.after) set reset)) }
+    ensures { IsSet result (only_if wanted (image2
+        (latch_rs_step enable.before enable.after input.before input.after) set reset)) }
 {
     if wanted {
         each_step!(set, latch_rs_with_set(enable, input, reset))
@@ -175,8 +175,9 @@ fn latch_rs_with_input(wanted: bool, input: Step, enable: Step, set: Value, rese
 /// Those of one step of the enable, of the input and of set.
 #[tactic(auto, unfolding(crate::specs::Image::image1))]
 fn latch_rs_with_set(wanted: bool, set: Step, enable: Step, input: Step, reset: Value) -> StepSet
-    ensures { IsSet result (only_if wanted
-        (image1 (latch_rs_step enable.before enable.after input.before input.after set.before set.after) reset)) }
+    ensures { IsSet result (only_if wanted (image1
+        (latch_rs_step enable.before enable.after input.before input.after set.before set.after)
+        reset)) }
 {
     if wanted {
         each_step!(reset, latch_rs_step(enable, input, set))

@@ -52,7 +52,11 @@ macro_rules! table2 {
 /// A table of three values.
 macro_rules! table3 {
     ($value:ident) => {
-        table!(343, index => $value(value_at(index / 49), value_at(index / 7 % 7), value_at(index % 7)))
+        table!(343, index => $value(
+            value_at(index / 49),
+            value_at(index / 7 % 7),
+            value_at(index % 7)
+        ))
     };
 }
 

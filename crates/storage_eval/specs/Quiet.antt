@@ -12,7 +12,7 @@ use Rattle.storage_eval.specs.Storage.{listening}
 use Rattle.storage_eval.specs.Instance.{storage_wave}
 
 -- It is quiet where the pins that it listens to are quiet where it looks. With set and reset it may
--- change though no pin does, where both may be 1.
+-- change though no pin does, if both may be 1.
 abbrev pub StorageIsQuiet : Type 0
 StorageIsQuiet =
     (kind : Kind) (waves : List (Wave Value)) (d : Bounds) (p : ℕ) → (kind ≡ Reg) ⊎ (kind ≡ Latch) →

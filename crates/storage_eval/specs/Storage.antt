@@ -18,7 +18,7 @@ listening_from kind place (a ∷ more) =
     if listens kind place then a ∷ listening_from kind (place + 1) more
     else listening_from kind (place + 1) more
 
--- a register's input does not count: it counts only where the clock rises, and then it may be
+-- a register's input does not count: it counts only when the clock rises, and then it may be
 -- either
 abbrev pub listening : {A : Type 0} → Kind → List A → List A
 listening kind pins = listening_from kind 0 pins

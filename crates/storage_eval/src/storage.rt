@@ -18,7 +18,7 @@ use std::alloc::Global;
 use step_values::{Value, latch};
 use wave_core::CyclicWave;
 
-/// What an element makes of the waves at its listening pins, late by its delay, where `image` gives
+/// What an element makes of the waves at its listening pins, late by its delay, if `image` gives
 /// the value that its kind makes of theirs.
 fn element_wave<W: CyclicWave<Item = Value>, I: Image>(
     alloc: Global,
@@ -39,7 +39,7 @@ fn element_wave<W: CyclicWave<Item = Value>, I: Image>(
 }
 
 /// The wave of the output of a register or latch, before the output's complement, from the waves of
-/// its pins and the bounds of its delay, in ticks. It fails only where memory runs out.
+/// its pins and the bounds of its delay, in ticks. It fails only if memory runs out.
 pub fn eval_storage<W: CyclicWave<Item = Value>>(
     alloc: Global,
     kind: Kind,

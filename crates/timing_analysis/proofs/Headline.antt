@@ -72,7 +72,7 @@ no_fault : (fs : List Fault) → length fs ≡ 0 → fs ≡ []
 no_fault [] e = refl
 no_fault (f ∷ fs) e = absurd (omega arith)
 
--- Where no fault is counted, no case has one, and nothing is broken.
+-- If no fault is counted, no case has one, and nothing is broken.
 all_unbroken : (c : Circuit) (base : ℕ) (cases : List Case) → fault_count c cases ≡ 0 → All (IsKept c base) cases → All (IsUnbroken c base) cases
 all_unbroken c base [] none keeps = All-nil (IsUnbroken c base)
 all_unbroken c base (case ∷ cases) none keeps =
@@ -81,7 +81,7 @@ all_unbroken c base (case ∷ cases) none keeps =
     (faultless_is_unbroken c base case (no_fault (faults c case) (omega (arith, counted, none))) (All-head (IsKept c base) case cases keeps))
     (all_unbroken c base cases (omega (arith, counted, none)) (All-tail (IsKept c base) case cases keeps))
 
--- What is safe but for its faults is safe where there is none.
+-- What is safe but for its faults is safe if there is none.
 pub faultless_is_safe : (c : Circuit) (values : List (List CaseValue)) (limit : ℕ)
     (safe : IsSafe c values limit (IsKept c)) → fault_count c safe.cases ≡ 0 →
     IsSafe c values limit (IsUnbroken c)

@@ -106,7 +106,7 @@ none_taken js driver k are (Is_driven {i} {d} l x y) =
     let same : d ≡ k = cc in
     omega arith
 
--- What was built of a drawing breaks no rule where there is a circuit of it.
+-- What was built of a drawing breaks no rule if there is a circuit of it.
 pub no_break : (s : State) (b : Built) (c : Circuit) (r : Refusal) → IsNumbered s b → IsBuilt b → Stands s c → IsCircuit c → IsRuleBroken b r.place r.kind → ⊥
 no_break s b c r is fit stands circuit broken =
     let names : net_names c.nets ≡ b.names = stands.names ∙ sym is.names in

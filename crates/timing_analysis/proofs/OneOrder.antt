@@ -18,7 +18,7 @@ use Rattle.std.proofs.lemmas.Map.Views.{btree_set_contains_iff}
 use Rattle.flat_circuit.specs.Name.{Name, nameless, name_cmp, name_at, AreDistinct, IsNameOrder}
 use Rattle.flat_circuit.proofs.Names.{name_cmp_total, name_is, order_in, order_has}
 
--- what differs where what is made of it does
+-- what differs if what is made of it does
 pub map_inj : {X Y : Type 0} (f : X → Y) (P : X → Type 0) → ((a b : X) → P a → P b → f a ≡ f b → a ≡ b) →
     (xs ys : List X) → All P xs → All P ys → map f xs ≡ map f ys → xs ≡ ys
 map_inj f P inj [] [] p q e = refl

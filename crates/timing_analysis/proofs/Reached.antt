@@ -1,4 +1,4 @@
--- Where waves permit the nets of a run from a tick on, those at pins permit the pins as much later as instances look back;
+-- If waves permit the nets of a run from a tick on, those at pins permit the pins as much later as instances look back;
 -- so nothing is broken from there on by what has no fault.
 use Rattle.std.proofs.Common.{◌≡◌, ℕ, zero, suc, ◌+◌, ◌<◌, ◌≤◌, max, false, List, [], ◌∷◌, length, map, arith, All, slice_get, Some}
 use Rattle.std.specs.Prelude.{slice_index_or}

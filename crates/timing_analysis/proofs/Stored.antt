@@ -14,7 +14,7 @@ use Rattle.timing_analysis.specs.Case.{Listed}
 use Rattle.timing_analysis.specs.Ended.{EndsCase}
 use Rattle.timing_analysis.specs.Settled.{IsSettledBase, IsBaseIn, IsSettledCase}
 
--- the base is as it was where its numbers mean the waves that they meant
+-- the base is as it was if its numbers mean the waves that they meant
 pub base_again : (c : Circuit) (limit base after : ℕ) (old new : List (Wave Value)) (ns ns' : List ℕ) (known known' : Option KnownFaults) →
     after ≡ base → known' ≡ known → AreKnown new ns' → waves_at new ns' ≡ waves_at old ns →
     IsBaseIn c limit base old ns known → IsBaseIn c limit after new ns' known'

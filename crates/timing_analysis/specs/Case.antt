@@ -24,7 +24,7 @@ abbrev pub numbered : ℕ → List (List CaseValue) → List Listed
 numbered from [] = []
 numbered from (vs ∷ cases) = record { number = from; values = vs } ∷ numbered (from + 1) cases
 
--- A drawing's cases count from 1. Where it has none there is one case, of number 0, in which no net
+-- A drawing's cases count from 1. If it has none there is one case, of number 0, in which no net
 -- is set.
 abbrev pub listed_cases : List (List CaseValue) → List Listed
 listed_cases [] = record { number = 0; values = [] } ∷ []

@@ -14,7 +14,7 @@ SettlesOneWay =
     SettlesAt (base_round c) limit' base' → AreSettled c limit' base' listed cases' →
     (base ≡ base') × (cases ≡ cases')
 
--- Where nothing without a fault is broken in a case, nothing is broken in a case without a fault.
+-- If nothing without a fault is broken in a case, nothing is broken in a case without a fault.
 abbrev pub FaultlessIsUnbroken : Type 0
 FaultlessIsUnbroken =
     (c : Circuit) (base : ℕ) (case : Case) → faults c case ≡ [] → IsKept c base case →

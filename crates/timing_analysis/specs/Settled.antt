@@ -13,7 +13,7 @@ use Rattle.timing_analysis.specs.Case.{Listed, Case, IsSettled, printed_tick, fa
 use Rattle.timing_analysis.specs.Promise.{IsKept, IsUnbroken}
 
 -- The base settled in this round, within the limit, with these waves, which permit every run whose
--- inputs keep their assertions. Where its faults are known by instances and nets, they are those of
+-- inputs keep their assertions. If its faults are known by instances and nets, they are those of
 -- these waves.
 pub record IsSettledBase (c : Circuit) (limit base : ℕ) (ws : List (Wave Value))
     (known : Option KnownFaults) : Type 0 where
@@ -29,7 +29,7 @@ settled_case listed rounds ws = record { listed = listed; rounds = rounds; waves
 
 -- The case that is listed settled from a base of this round, after so many rounds of its own and
 -- within the limit, with these waves. It has this number and these faults, and this tick is printed
--- for it: what has no fault is never broken from there on, and nothing is where there is no fault.
+-- for it: what has no fault is never broken from there on, and nothing is if there is no fault.
 pub record IsSettledCase (c : Circuit) (limit base : ℕ) (listed : Listed) (number rounds tick : ℕ)
     (ws : List (Wave Value)) (fs : List Fault) : Type 0 where
   pub numbered : number ≡ listed.number

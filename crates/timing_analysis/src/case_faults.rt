@@ -27,7 +27,7 @@ pub struct KnownFaults {
 }
 
 /// The faults that the settled waves of all nets show: about the edges of clocks, at marked pins
-/// and of assertions, and then of the widths of pulses. Where the waves permit the runs of a case
+/// and of assertions, and then of the widths of pulses. If the waves permit the runs of a case
 /// after so many rounds of the base and of the case, what has no fault is never broken in them from
 /// the tick on that is printed for these.
 pub fn faults<W: CyclicWave<Item = Value>>(
@@ -64,7 +64,7 @@ pub fn known_faults<W: CyclicWave<Item = Value>>(
     Ok(KnownFaults { points, pulses })
 }
 
-/// What [`faults`] answers for these waves, where the faults of each instance and of each net in
+/// What [`faults`] answers for these waves, if the faults of each instance and of each net in
 /// others are known. What has the same waves in both is not checked again.
 pub fn faults_again<W: CyclicWave<Item = Value>>(
     alloc: Global,

@@ -19,8 +19,8 @@ use scald_base::Stop;
 use scald_lex::packed_tokens;
 use std::alloc::Global;
 
-/// The drawing that a text of fewer than 4,294,967,295 bytes draws; or `Refused`, where it draws
-/// none, or `NoMemory`, where memory runs out.
+/// The drawing that a text of fewer than 4,294,967,295 bytes draws; or `Refused`, if it draws
+/// none, or `NoMemory`, if memory runs out.
 pub fn read_text(alloc: Global, text: &[u8]) -> Result<Drawing, Stop>
     requires { length text.now < 2 ^ 32 - 1 }
     ensures drawn { IfOk result (λ drawing. TextDraws text.now (drawing_of drawing)) }
@@ -62,8 +62,8 @@ pub struct Drawn {
     pub cases: CaseList,
 }
 
-/// The circuit of a drawing, with its cases; or `Refused`, where it has no circuit or has a case
-/// that is refused; or `NoMemory`, where memory runs out.
+/// The circuit of a drawing, with its cases; or `Refused`, if it has no circuit or has a case
+/// that is refused; or `NoMemory`, if memory runs out.
 pub fn circuit_of(alloc: Global, drawing: Drawing) -> Result<Drawn, Stop>
     requires { IsWellFormed (drawing_of drawing) }
     ensures drawn { IfOk result (λ drawn. (text : List ℕ) → TextDraws text (drawing_of drawing) →
@@ -91,8 +91,8 @@ pub fn circuit_of(alloc: Global, drawing: Drawing) -> Result<Drawn, Stop>
 }
 
 /// The circuit that a text of fewer than 4,294,967,295 bytes draws, with its cases; or `Refused`,
-/// where the text draws no drawing, or that has no circuit or has a case that is refused; or
-/// `NoMemory`, where memory runs out.
+/// if the text draws no drawing, or that has no circuit or has a case that is refused; or
+/// `NoMemory`, if memory runs out.
 pub fn read_circuit(alloc: Global, text: &[u8]) -> Result<Drawn, Stop>
     requires { length text.now < 2 ^ 32 - 1 }
     ensures drawn { IfOk result (λ drawn. DrawsCircuit text.now drawn.circuit drawn.cases) }

@@ -7,7 +7,7 @@ pub fn circuits_settle_one_way()
     ensures { SettlesOneWay }
 {}
 
-/// Where nothing without a fault is broken in a case, nothing is broken in a case without a fault.
+/// If nothing without a fault is broken in a case, nothing is broken in a case without a fault.
 pub fn faultless_is_unbroken()
     ensures { FaultlessIsUnbroken }
 {}

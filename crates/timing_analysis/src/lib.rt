@@ -1,7 +1,7 @@
 //! From a text to the circuit that it draws, its settled waves, their faults, and what never breaks
 //! in any run.
 //!
-//! The layer above calls [`read_circuit`], or [`read_text`] and then [`circuit_of`] where the
+//! The layer above calls [`read_circuit`], or [`read_text`] and then [`circuit_of`] if the
 //! drawing itself is wanted, makes a [`Subject`] of what the text draws, and asks it for the
 //! settled base and then for one case after the other. `specs/Drawn` says which circuit and cases a
 //! text draws and why one is refused, `specs/Settled` what comes of settling: which waves, which

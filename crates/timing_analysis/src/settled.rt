@@ -36,7 +36,7 @@ pub struct SettledBase<W: CyclicWave<Item = Value>> {
     pub store: Store<W>,
     /// The numbers of the waves of the base, and the round in which they settled.
     pub base: Settled,
-    /// The faults of each instance and of each net in these waves, where there are cases: what a
+    /// The faults of each instance and of each net in these waves, if there are cases: what a
     /// case leaves as it is in the base is not checked again.
     pub known: Option<KnownFaults>,
 }
@@ -44,7 +44,7 @@ pub struct SettledBase<W: CyclicWave<Item = Value>> {
 /// A settled case.
 #[derive(Drop)]
 pub struct SettledCase {
-    /// The number of the case: from 1, or 0 where a drawing lists none.
+    /// The number of the case: from 1, or 0 if a drawing lists none.
     pub number: u32,
     /// The numbers of the waves of the case, and how many rounds they took from the base on.
     pub settled: Settled,
@@ -55,8 +55,8 @@ pub struct SettledCase {
 }
 
 impl Subject {
-    /// The settled base of the circuit. `Unsettled` comes where it does not settle within so many
-    /// rounds, and `NoMemory` where memory runs out.
+    /// The settled base of the circuit. `Unsettled` comes if it does not settle within so many
+    /// rounds, and `NoMemory` if memory runs out.
     pub fn base<W: CyclicWave<Item = Value>>(
         &self,
         alloc: Global,
@@ -90,7 +90,7 @@ impl Subject {
     }
 
     /// The settled case at this place of the list, from 0, from the base on. `Unsettled` comes
-    /// where it does not settle within so many rounds, and `NoMemory` where memory runs out; the
+    /// if it does not settle within so many rounds, and `NoMemory` if memory runs out; the
     /// base may then be lost.
     pub fn case<W: CyclicWave<Item = Value>>(
         &self,
@@ -148,7 +148,7 @@ impl Subject {
 
 impl<W: CyclicWave<Item = Value>> SettledBase<W> {
     /// The one case of what lists none: the base, from which it takes no more rounds.
-    /// `NoMemory` comes where memory runs out. The limit is that of the base's rounds.
+    /// `NoMemory` comes if memory runs out. The limit is that of the base's rounds.
     pub fn only_case(
         self,
         alloc: Global,
@@ -189,7 +189,7 @@ impl<W: CyclicWave<Item = Value>> SettledBase<W> {
         Ok((store, case))
     }
 
-    /// Forgets the waves that are not the base's, and all evaluations, where much came in: cases
+    /// Forgets the waves that are not the base's, and all evaluations, if much came in: cases
     /// that come to ever new waves would else take memory without end.
     fn shorten(&mut self, alloc: Global) -> Result<(), NoMemory>
         requires { AreKnown self.old.store self.old.base.numbers }
@@ -211,7 +211,7 @@ impl<W: CyclicWave<Item = Value>> SettledBase<W> {
 }
 
 /// The faults of a case with the waves of these numbers: what it leaves as it is in the base is not
-/// checked again where the faults of the base are known.
+/// checked again if the faults of the base are known.
 fn faults_from<W: CyclicWave<Item = Value>>(
     alloc: Global,
     circuit: &Circuit,

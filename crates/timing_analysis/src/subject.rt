@@ -25,7 +25,7 @@ pub struct Subject {
 }
 
 impl Subject {
-    /// A circuit with its cases, its classes and its reach. `NoMemory` comes where memory runs out.
+    /// A circuit with its cases, its classes and its reach. `NoMemory` comes if memory runs out.
     pub fn new(alloc: Global, drawn: Drawn) -> Result<Subject, NoMemory>
         requires few { length drawn.cases ≤ 256 }
         requires exist { All (NetsExist drawn.circuit) drawn.cases }

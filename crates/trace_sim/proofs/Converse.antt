@@ -1,4 +1,4 @@
--- The other way round: where the equation holds the output is the bit that is fixed, and where none is fixed it leaves
+-- The other way round: if the equation holds the output is the bit that is fixed, and if none is fixed it leaves
 -- the bit open.
 use Rattle.std.proofs.Common.{◌≡◌, ◌≢◌, ℕ, suc, ◌+◌, ◌-◌, ◌<◌, ◌≤◌, ◌⊎◌, min, max, Bool, true, false, ◌&&◌, cond, ltb, List, [], ◌∷◌, length, Option, Some, None, refl, sym, subst, ◌∙◌, arith, inl, inr, All}
 use Rattle.std.specs.List.{list_all}
@@ -96,7 +96,7 @@ none_open (Enabled true) kind d choice xs old t some asked makes e =
 none_open (Enabled false) kind d choice xs old t some asked makes e = absurd (cc)
 none_open (Checker check) kind d choice xs old t some asked makes e = absurd (cc)
 
--- Where no bit is fixed, the equation leaves it open.
+-- If no bit is fixed, the equation leaves it open.
 pub none_leaves : (run : Run) (i : Instance) (choice : Chosen) (t : ℕ) → 1 ≤ length choice.wires →
     AsOne (form_of i.kind) (two_delays i.kind i.split) choice → IsGateByTwo (form_of i.kind) (two_delays i.kind i.split) → makes_output (form_of i.kind) ≡ true →
     fixed_in run i choice t ≡ None → LeavesFree run i choice t

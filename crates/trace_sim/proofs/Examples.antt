@@ -106,7 +106,7 @@ checkers_have_none = tt
 abbrev chain : ℕ → ℕ → Circuit
 chain wire least = circuit (driven_by 0 ∷ wired wire 9 (Some 1) ∷ input ∷ []) (element Buf (bounds least 2) (on 1 ∷ []) 0 ∷ element Buf (bounds 5 7) (on 2 ∷ []) 1 ∷ [])
 
--- Where neither it nor the wire need take a tick, it reads at once what the slow one drives, and is evaluated after it.
+-- If neither it nor the wire need take a tick, it reads at once what the slow one drives, and is evaluated after it.
 reads_the_slow_one : ReadsAtOnce (chain 0 0) 1 0
 reads_the_slow_one = record {
   net = 1;

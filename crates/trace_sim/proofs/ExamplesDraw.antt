@@ -23,7 +23,7 @@ a_number : (draw_from 3 7 (words 12)).0 ≡ 5
 unfolding next_u64 stream_of
 a_number = refl
 
--- where there is one possibility, a word is taken all the same
+-- if there is one possibility, a word is taken all the same
 one_possibility : (draw_bits 2 (draw_from 4 4 (words 12)).1).0 ≡ true ∷ false ∷ []
 unfolding next_u64 stream_of
 one_possibility = refl
@@ -107,7 +107,7 @@ bit_after_stable : (draw_bit (draw_offset header (Some (asserted (Stable []))) (
 unfolding next_u64 stream_of
 bit_after_stable = refl
 
--- one is for that of a clock that comes as a whole, where nothing drives it
+-- one is for that of a clock that comes as a whole, if nothing drives it
 bit_after_offset : (draw_bit (draw_offset header (Some (asserted (Precision clock))) (words 11)).1).0 ≡ false
 unfolding next_u64 stream_of
 bit_after_offset = refl

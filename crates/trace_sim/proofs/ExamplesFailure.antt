@@ -38,7 +38,7 @@ follows = refl
 pub first_bit_is_free : failing buffer at_once (following false ∷ clock ∷ []) ≡ None ∷ None ∷ None ∷ None ∷ None ∷ None ∷ []
 first_bit_is_free = refl
 
--- a 1 at tick 1 where the clock was 0 at tick 0
+-- a 1 at tick 1 if the clock was 0 at tick 0
 abbrev early : List Bool
 early = true ∷ true ∷ true ∷ false ∷ false ∷ false ∷ []
 

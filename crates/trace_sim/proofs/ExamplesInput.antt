@@ -36,7 +36,7 @@ bits text t = slice_index_or (codes text) t 48 == 49
 abbrev shown : Signal → ℕ → List ℕ
 shown x n = map (λ (t : ℕ). cond (x t) 49 48) (range_with_len 0 n)
 
--- the first bits of a net with this assertion, where this is how much later it comes than its earliest, and these are its
+-- the first bits of a net with this assertion, if this is how much later it comes than its earliest, and these are its
 -- free bits
 abbrev given : AssertSpec → ℕ → String → ℕ → List ℕ
 given spec by free n = shown (asserted eight spec by (bits free)) n

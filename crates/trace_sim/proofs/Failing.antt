@@ -1,4 +1,4 @@
--- An equation fails exactly where it fixes a bit and the output is another.
+-- An equation fails exactly if it fixes a bit and the output is another.
 use Rattle.std.proofs.Common.{◌≡◌, ◌≢◌, ℕ, zero, suc, ◌+◌, ◌-◌, ◌<◌, ◌≤◌, Bool, true, false, cond, List, [], ◌∷◌, length, Option, Some, None, refl, ap, sym, subst, ◌∙◌, arith, inl, inr}
 use Rattle.std.specs.Prelude.{slice_get, is_some}
 use Rattle.std.proofs.lemmas.Bool.{cases_order}
@@ -47,7 +47,7 @@ some_fixed : (bit : Option Bool) (out : Bool) → contradicts bit out ≡ true �
 some_fixed None out differs is = absurd (cc)
 some_fixed (Some b) out differs is = absurd (cc)
 
--- a net is named where the output is on it and fails
+-- a net is named if the output is on it and fails
 record IsFailing (out : Option Target) (fails : Bool) (net : ℕ) : Type 0 where
   drives : out ≡ Some (OnNet net)
   differs : fails ≡ true
@@ -60,7 +60,7 @@ is_failing (Some (OnNet n)) false net is = absurd (cc)
 
 -- ---- one instance at one tick
 
--- where a bit is fixed the equation is required
+-- if a bit is fixed the equation is required
 asked_by : (run : Run) (i : Instance) (at : Chosen) (t : ℕ) → fixed_in run i at t ≢ None → are_there (named_in (form_of i.kind) i.delay at) t ≡ true
 asked_by run i at t some = by (are_there (named_in (form_of i.kind) i.delay at) t) refl
   where
@@ -89,7 +89,7 @@ no_output run i at t none =
     either true = refl
     either false = refl
 
--- Where no net is named the output is the bit that is fixed, if one is.
+-- If no net is named the output is the bit that is fixed, if one is.
 fine_is : (c : Circuit) (run : Run) (k : ℕ) (i : Instance) (at : Chosen) (t : ℕ) → IsCircuit c → slice_get c.instances k ≡ Some i →
     failing_net run i at t ≡ None → IsFixedTo (fixed_in run i at t) (out_signal run i.out i.out_inverted t)
 fine_is c run k i at t known here none = by i.out refl

@@ -1,4 +1,4 @@
--- With the bit that is fixed the equation holds, and none is fixed where the equation leaves the bit open.
+-- With the bit that is fixed the equation holds, and none is fixed if the equation leaves the bit open.
 use Rattle.std.proofs.Common.{◌≡◌, ℕ, zero, suc, ◌+◌, ◌-◌, ◌≤◌, ◌↔◌, max, Bool, true, false, cond, List, [], ◌∷◌, length, Option, Some, None, refl, ap, sym, subst, ◌∙◌, arith, inl, inr, All}
 use Rattle.std.specs.List.{list_all}
 use Rattle.std.proofs.lemmas.Bool.{and_from, and_parts, false_from_ne_true}
@@ -22,7 +22,7 @@ use Rattle.trace_sim.proofs.Held.{held_passes, passes_held, waited_is}
 
 -- ---- one delay or two
 
--- where a gate has one delay, both numbers are it
+-- if a gate has one delay, both numbers are it
 abbrev pub AsOne : Form → Option Split → Chosen → Type 0
 AsOne Gate None choice = (choice.rise ≡ choice.delay) × (choice.fall ≡ choice.delay)
 AsOne form split choice = Unit {0}
@@ -110,7 +110,7 @@ fixed_obeys kind d (Some s) choice xs o t some one gate asked h =
     gate_obeys kind choice xs (o t) t some (subst (λ f. All (λ b. b ≤ t) (named_in f d choice)) gate asked) d (o (t - 1))
     (subst (λ f. IsFixedTo (fixed f kind d choice xs (o (t - 1)) t) (o t)) gate h)
 
--- ---- where nothing is fixed
+-- ---- if nothing is fixed
 
 pub stays_same : (a b : Bool) → cond a b (cond b false true) ≡ true → a ≡ b
 stays_same true true e = refl
@@ -155,7 +155,7 @@ fixed_obeys_at run i choice t some one gate h asked =
     (subst (λ (b : Bool). IsFixedTo (cond b (fixed (form_of i.kind) i.kind i.delay choice (pin_signals run i.pins choice.wires)
     (out_signal run i.out i.out_inverted (t - 1)) t) None) (out_signal run i.out i.out_inverted t)) e h)
 
--- Where the equation leaves the bit open, none is fixed.
+-- If the equation leaves the bit open, none is fixed.
 pub leaves_none : (run : Run) (i : Instance) (choice : Chosen) (t : ℕ) → AsOne (form_of i.kind) (two_delays i.kind i.split) choice → IsGateByTwo (form_of i.kind) (two_delays i.kind i.split) →
     LeavesFree run i choice t → fixed_in run i choice t ≡ None
 leaves_none run i choice t one gate (inl unasked) =

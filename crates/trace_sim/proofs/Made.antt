@@ -30,7 +30,7 @@ use Rattle.trace_sim.proofs.Fixed.{IsFixedTo, fixed_obeys_at, leaves_none}
 use Rattle.trace_sim.proofs.Chosen.{IsFitting, fits_at, fitting, length_chosen}
 use Rattle.trace_sim.proofs.Turns.{IsIn, InTurn, is_in, in_turn, reads_now}
 
--- an output's bit on its net: the one that is fixed, complemented where the output is marked, and else the free one
+-- an output's bit on its net: the one that is fixed, complemented if the output is marked, and else the free one
 abbrev pub settled : Bool → Option Bool → Bool → Bool
 settled inverted None free = free
 settled inverted (Some bit) free = turned inverted bit

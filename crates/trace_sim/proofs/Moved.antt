@@ -41,7 +41,7 @@ and_false : (a b : Bool) → (a && (not true && b)) ≡ false
 and_false true b = refl
 and_false false b = refl
 
--- a slot that is of a region is its last, where the next is of none
+-- a slot that is of a region is its last, if the next is of none
 not_inside : (c : ClockSpec) (h : Header) (skew : ℕ × ℕ) (to : Bool) (t : ℕ) → 0 < period h → ¬ Near c h skew to (t + 1) →
     (is_near c h skew to (back (period h) t 0) && not (is_last c h skew to (back (period h) t 0))) ≡ false
 not_inside c h skew to t pos none = go (is_near c h skew to (back (period h) t 0)) refl

@@ -71,7 +71,7 @@ module _ (c : Circuit) (choice : Choice) (ticks : ℕ) (known : IsCircuit c) (fi
     undriven : (n t : ℕ) → driver_at c.nets n ≡ None → Agree n t
     undriven n t none = s.inputs n t none ∙ sym (r.inputs n t none)
 
-    -- a driven net agrees where the runs agree before the tick and on what its driver sees at once
+    -- a driven net agrees if the runs agree before the tick and on what its driver sees at once
     driven_agrees : (t k n : ℕ) → t < ticks → ((m v : ℕ) → v < t → Agree m v) → out_at c.instances k ≡ Some (OnNet n) →
         ((d m : ℕ) → out_at c.instances d ≡ Some (OnNet m) → ReadsAtOnce c d k → Agree m t) → Agree n t
     driven_agrees t k n l before drives now = by (slice_get c.instances k) refl (slice_get (choices_of choice) k) refl

@@ -108,7 +108,7 @@ not_both c h skew t apart rise fall = apart (record {
 
 -- ---- the end of a region
 
--- where it goes on, the next slot is of it
+-- if it goes on, the next slot is of it
 next_near : (c : ClockSpec) (h : Header) (skew : ℕ × ℕ) (to : Bool) (t : ℕ) → 0 < period h → (near : Near c h skew to t) →
     near.1.by < skew.0 + skew.1 → Near c h skew to (t + 1)
 next_near c h skew to t pos near less =
@@ -129,7 +129,7 @@ next_near c h skew to t pos near less =
       },
     )
 
--- where the next slot is not of it, its edge is as far back as an edge may come late
+-- if the next slot is not of it, its edge is as far back as an edge may come late
 pub late_edge : (c : ClockSpec) (h : Header) (skew : ℕ × ℕ) (to : Bool) (t : ℕ) → 0 < period h → (near : Near c h skew to t) →
     ¬ Near c h skew to (t + 1) → back (period h) t skew.1 ≡ near.0
 late_edge c h skew to t pos near none =

@@ -37,7 +37,7 @@ IsOneDelayForm (Register forced) pick = pick.0 ≡ pick.1
 IsOneDelayForm (Enabled forced) pick = pick.0 ≡ pick.1
 IsOneDelayForm (Checker check) pick = ⊤
 
--- Where there are not two delays, both numbers are the one. A change function and a checker have
+-- If there are not two delays, both numbers are the one. A change function and a checker have
 -- none, whatever is picked.
 abbrev pub IsOneDelay : Kind → Option Split → ℕ × ℕ → Type 0
 IsOneDelay kind None pick = IsOneDelayForm (form_of kind) pick
@@ -49,7 +49,7 @@ pub record PickFits (c : Circuit) (i : Instance) (pick : ℕ × ℕ) (wires : Li
   pub one : IsOneDelay i.kind (two_delays i.kind i.split) pick
   pub wire : WiresFit c.nets i.pins wires
 
--- the picks at the instance of a number, where there are any
+-- the picks at the instance of a number, if there are any
 abbrev pub PickFitsAt : Circuit → Choice → ℕ → Type 0
 PickFitsAt c choice k =
     (i : Instance) (pick : ℕ × ℕ) (wires : List ℕ) → slice_get c.instances k ≡ Some i →

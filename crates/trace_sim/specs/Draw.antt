@@ -14,7 +14,7 @@ seeded seed = stream_of (steps_u64_low pcg64) (pcg64_of_seed (pcg32_seed 32 seed
 abbrev pub Draw : Type 0 → Type 0
 Draw A = Stream → A × Stream
 
--- a number from the least to the greatest takes a word, also where they are one
+-- a number from the least to the greatest takes a word, also if they are one
 abbrev pub draw_from : ℕ → ℕ → Draw ℕ
 draw_from least greatest s = (least + (next_u64 s).0 % (greatest - least + 1), (next_u64 s).1)
 

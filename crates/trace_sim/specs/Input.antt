@@ -47,7 +47,7 @@ is_near c h skew to slot =
 abbrev pub is_last : ClockSpec → Header → ℕ × ℕ → Bool → ℕ → Bool
 is_last c h skew to slot = is_edge c h to (back (period h) slot skew.1)
 
--- Each edge comes once in its region, at a slot that the free bits tell, at the latest in the last.
+-- Each edge comes once in its region, at a slot that the free bits choose, at the latest in the last.
 -- At tick 0 nothing is known of a region but that it was entered.
 abbrev pub moved : ClockSpec → Header → ℕ × ℕ → Signal → Signal
 moved c h skew free zero =
@@ -77,7 +77,7 @@ asserted h (Stable spans) by free = held h spans free
 -- ---- of the nets of a circuit
 
 -- what is given of a net: its value in the case, or else what its assertion makes of the free bits;
--- where something drives it, these themselves
+-- if something drives it, these themselves
 abbrev pub given_in : Header → Option Bool → Option Net → ℕ → Signal → Signal
 given_in h value None by free = free
 given_in h (Some one) (Some net) by free = λ t. one
@@ -88,7 +88,7 @@ given_in h None (Some net) by free =
 abbrev pub bits_in : List Bool → Signal
 bits_in row t = slice_index_or row t false
 
--- of the net at a place in name order, where this was drawn of the nets
+-- of the net at a place in name order, if this was drawn of the nets
 abbrev pub given_at : Circuit → List CaseValue → List ℕ → Bits → ℕ → Signal
 given_at c values shifts free place =
     let net = net_at c.order place in

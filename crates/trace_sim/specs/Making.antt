@@ -106,8 +106,8 @@ abbrev pub stored : Bool → List Signal → ℕ → Bool → Option Bool
 stored false signals s bit = Some bit
 stored true signals s bit = forced_by (nth_signal signals 2 s) (nth_signal signals 3 s) bit
 
--- The output at a tick, by what the pins show and by the output a tick before. None where any bit
--- will do: of a change function that may change, where set and reset are both 1, and of a checker.
+-- The output at a tick, by what the pins show and by the output a tick before. None if any bit
+-- will do: of a change function that may change, if set and reset are both 1, and of a checker.
 abbrev pub fixed : Form → Kind → Bounds → Chosen → List Signal → Bool → ℕ → Option Bool
 fixed Gate kind bounds choice signals old t =
     Some (turned (nat_lt choice.rise choice.fall)
@@ -122,7 +122,7 @@ fixed (Enabled forced) kind bounds choice signals old t =
     stored forced signals (t - choice.delay) (latched signals (t - choice.delay) old)
 fixed (Checker check) kind bounds choice signals old t = None
 
--- the bit that an instance's equation fixes, where it is asked
+-- the bit that an instance's equation fixes, if it is asked
 abbrev pub fixed_in : Run → Instance → Chosen → ℕ → Option Bool
 fixed_in run i choice t =
     if are_there (named_in (form_of i.kind) i.delay choice) t
@@ -136,7 +136,7 @@ fixed_in run i choice t =
 abbrev pub put : Bits → ℕ → ℕ → Bool → Bits
 put bits n t bit = slice_set bits n (slice_set (slice_index_or bits n []) t bit)
 
--- an output is written where it drives a net and its bit is fixed; else the free bit that stands
+-- an output is written if it drives a net and its bit is fixed; else the free bit that stands
 -- there is left
 abbrev pub written : Bits → Option Target → Bool → ℕ → Option Bool → Bits
 written bits (Some (OnNet n)) inverted t (Some bit) = put bits n t (turned inverted bit)

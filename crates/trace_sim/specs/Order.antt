@@ -34,7 +34,7 @@ pub record IsEvaluationOrder (c : Circuit) (order : List ℕ) : Type 0 where
 
 -- ---- the same by lists, as the search takes it
 
--- the driver of the net that a pin is on, where its wire may have no delay
+-- the driver of the net that a pin is on, if its wire may have no delay
 abbrev pub at_once_driver : List Net → Target → Option ℕ
 at_once_driver nets (Constant b) = None
 at_once_driver nets (OnNet i) = if (wire_at nets i).min == 0 then driver_at nets i else None

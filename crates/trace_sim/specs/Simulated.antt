@@ -31,7 +31,7 @@ pub record MayChange (bounds : Bounds) (signals : List Signal) (t : ℕ) : Type 
   pub pin : ℕ
   pub steps : nth_signal signals pin (at - 1) ≢ nth_signal signals pin at
 
--- a set and a reset, where there are such pins, are both 1
+-- a set and a reset, if there are such pins, are both 1
 abbrev pub AreBoth : Bool → List Signal → ℕ → Type 0
 AreBoth false signals s = ⊥
 AreBoth true signals s = (nth_signal signals 2 s ≡ true) × (nth_signal signals 3 s ≡ true)

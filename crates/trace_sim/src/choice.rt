@@ -6,7 +6,7 @@ ghost use Rattle.trace_sim.specs.Choice.{chosen, choices_of};
 use scald_base::List;
 use vector_names::Indices;
 
-/// For each instance its rise and its fall delay, in ticks; where it has one delay, both are that
+/// For each instance its rise and its fall delay, in ticks; if it has one delay, both are that
 /// one. What stands at a change function or at a checker does not count.
 pub type DelayPicks = List<(u16, u16)>;
 
@@ -26,7 +26,7 @@ pub struct Choice {
     pub wires: WirePicks,
     /// The bits of the nets that nothing drives. Those of other nets do not count.
     pub inputs: Traces,
-    /// The bits of driven nets where no equation fixes one: the start, a change function that may
+    /// The bits of driven nets if no equation fixes one: the start, a change function that may
     /// change, set and reset both 1. Other bits do not count.
     pub free: Traces,
 }

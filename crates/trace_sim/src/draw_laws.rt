@@ -2,7 +2,7 @@
 
 ghost use Rattle.trace_sim.specs.DrawLaws.{CasesHold, InputsMeet, OneDrawn};
 
-/// Each net that nothing drives keeps its assertion, where the case sets no asserted clock.
+/// Each net that nothing drives keeps its assertion, if the case sets no asserted clock.
 pub fn inputs_meet()
     ensures { InputsMeet }
 {}

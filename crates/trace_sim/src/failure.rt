@@ -25,7 +25,7 @@ fn contradicts(bit: Option<bool>, out: bool) -> bool
     }
 }
 
-// The net of an instance's output, where it is other than the bit that the equation fixes.
+// The net of an instance's output, if it is other than the bit that the equation fixes.
 fn failing(
     alloc: Global,
     c: &Circuit,
@@ -91,7 +91,7 @@ fn first_at(
 }
 
 /// The first tick at which the equation of an instance does not hold, and the net that the first
-/// such instance drives; `None` exactly where all equations hold wherever they are required. Of the
+/// such instance drives; `None` exactly if all equations hold wherever they are required. Of the
 /// choice the delays count alone, which fit; the bits are any. Takes a time linear in pins times
 /// ticks.
 pub fn first_failure(

@@ -53,7 +53,7 @@ fn fits_at(c: &Circuit, choice: &Choice, k: u32) -> bool
 }
 
 /// Whether the delays that are picked at an instance are within its bounds, and those of the wires
-/// to its pins within the bounds of their nets, 0 on a constant. Both picks are one where the
+/// to its pins within the bounds of their nets, 0 on a constant. Both picks are one if the
 /// instance has one delay.
 pub fn pick_fits(c: &Circuit, i: &Instance, pick: (u16, u16), wires: &[u16]) -> bool
     ensures { MatchBool result (PickFits c.now i.now pick wires.now)

@@ -1,5 +1,5 @@
 //! The bits of a net, tick by tick: what its case or its assertion makes of the free bits, and
-//! these themselves where something drives it.
+//! these themselves if something drives it.
 
 ghost use Rattle.std.specs.Prelude.{◌≡◌, ◌-◌, ◌<◌, ◌≤◌, ◌^◌, ◌&&◌, ◌||◌, [], IfOk, Some, map, not};
 ghost use Rattle.std.specs.List.{range_with_len};
@@ -151,14 +151,14 @@ fn moved_bit(
     }
 }
 
-// Near a rise: 1 where it was, at the last slot, or where the free bit is.
+// Near a rise: 1 if it was, at the last slot, or if the free bit is.
 fn rising(before: bool, last: bool, free: bool) -> bool
     ensures { result ≡ (before || (last || free)) }
 {
     before || last || free
 }
 
-// Near a fall: 0 where it was, at the last slot, or where the free bit is.
+// Near a fall: 0 if it was, at the last slot, or if the free bit is.
 fn falling(before: bool, last: bool, free: bool) -> bool
     ensures { result ≡ (before && (not last && free)) }
 {

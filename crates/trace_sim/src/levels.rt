@@ -31,7 +31,7 @@ fn in_row(row: &Levels, t: usize) -> bool
     }
 }
 
-/// A bit, complemented where it is marked so.
+/// A bit, complemented if it is marked so.
 pub(crate) fn turned(inverted: bool, bit: bool) -> bool
     ensures { result ≡ turned_bit inverted bit }
 {

@@ -1,7 +1,7 @@
 //! Runs of a circuit, made tick by tick, without waves.
 //!
 //! The layer above calls [`simulate`], which makes the run of a `Choice`: delays, wires' delays,
-//! inputs and free bits. [`draw`] draws a choice by the words of a generator, [`choice_fits`] tells
+//! inputs and free bits. [`draw`] draws a choice by the words of a generator, [`choice_fits`] says
 //! whether a choice has what `simulate` asks of it, [`first_failure`] judges bits that anyone
 //! wrote, and [`nth_pin`] reads what a pin shows of them. `specs/Choice` says which choices a
 //! circuit has, `specs/Simulated` where the bits of their runs come from, `specs/Drawn` and

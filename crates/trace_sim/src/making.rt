@@ -18,7 +18,7 @@ use flat_circuit::{Circuit, Instance, Pin, Target};
 use scald_base::{List, NoMemory};
 use std::alloc::Global;
 
-/// The run of this choice: with these delays, these inputs, and the free bits where no equation
+/// The run of this choice: with these delays, these inputs, and the free bits if no equation
 /// fixes a bit. The choice fits the circuit: there are delays within their bounds for each instance
 /// and each pin, and a bit for each net and tick. Takes a time linear in pins times ticks.
 pub fn simulate(alloc: Global, c: &Circuit, choice: &Choice, ticks: u16) -> Result<Traces, NoMemory>
@@ -178,7 +178,7 @@ pub(crate) fn fixed_bit(
     }
 }
 
-/// The output at a tick, complemented back where it is marked.
+/// The output at a tick, complemented back if it is marked.
 pub(crate) fn old_output(out: Option<Target>, inverted: bool, t: usize, bits: &[Levels]) -> bool
     ensures { result ≡ out_signal (seen bits.now) out inverted t }
 {
@@ -250,7 +250,7 @@ fn latched(bits: &[Levels], pins: &[Pin], wires: &[u16], s: usize, old: bool) ->
     }
 }
 
-// What a set and a reset make of the bit, where there are such pins.
+// What a set and a reset make of the bit, if there are such pins.
 fn stored(
     bits: &[Levels],
     pins: &[Pin],

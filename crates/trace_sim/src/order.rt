@@ -69,7 +69,7 @@ fn push_some(list: &mut Vec<usize>, value: Option<usize>) -> Result<(), NoMemory
     Ok(())
 }
 
-// What drives the net after a pin, where its wire may have no delay.
+// What drives the net after a pin, if its wire may have no delay.
 fn driver(c: &Circuit, target: Target) -> Option<usize>
     ensures { result ≡ at_once_driver c.now.nets target }
 {

@@ -76,7 +76,7 @@ fn passes(
     }
 }
 
-// How many ticks in a row the instance sees what it waits for, tick t taken in, where so many were
+// How many ticks in a row the instance sees what it waits for, tick t taken in, if so many were
 // before.
 fn row_at(
     alloc: Global,

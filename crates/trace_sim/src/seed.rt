@@ -105,7 +105,7 @@ fn shift_at(shifts: &[u32], place: u32) -> u32
     }
 }
 
-// The value that the case gives a net: the last, where it has several.
+// The value that the case gives a net: the last, if it has several.
 fn value_in(values: &[CaseValue], net: u32) -> Option<bool>
     ensures { result ≡ value_in values.now net }
 {

@@ -21,7 +21,7 @@ use Rattle.trace_tool.specs.Pass.{AreAmong, FormEnds, HasSoonest, InstanceEnds, 
 use Rattle.trace_tool.proofs.Earliest.{first_of_all, none_yet, one_instance, one_more}
 use Rattle.trace_tool.proofs.Soonest.{breaks_by, has_soonest}
 
--- a checker of the pulses of a net, which are to be so wide where they are high
+-- a checker of the pulses of a net, which are to be so wide if they are high
 abbrev pulses_of : ℕ → ℕ → Instance
 pulses_of net wide = record (checker MinPulse (on net ∷ [])) { limits = Pulses wide 0 }
 
@@ -112,7 +112,7 @@ sooner_ends = first_of_all (checked two) (run_of 6 both apart) 0 refl (Some (OfI
     (soonest_at two both apart 0 0 (pulses_of 0 9) refl refl refl 6 4 (omega arith) refl refl))
     (soonest_at two both apart 0 1 (pulses_of 1 9) refl refl refl 6 3 (omega arith) refl refl))
 
--- where both end with one tick the first checker's comes first, though its pulse begins later
+-- if both end with one tick the first checker's comes first, though its pulse begins later
 abbrev together : Bits
 together = bits "000100" ∷ bits "011100" ∷ []
 

@@ -72,7 +72,7 @@ changes_in_hold = refl
 changes_after_hold : windows AboutRise (hold 1) straight 0 after_the_rise ≡ bits "000000"
 changes_after_hold = refl
 
--- at one tick: a setup of 0 allows it, where the hold is 0 the setup alone does not
+-- at one tick: a setup of 0 allows it, if the hold is 0 the setup alone does not
 abbrev together : Bits
 together = bits "001111" ∷ bits "001111" ∷ []
 

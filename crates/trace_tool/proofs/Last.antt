@@ -47,7 +47,7 @@ none_such test (suc n) e t less = by (λ at. none_such test n at t) (test n) ref
       | inr apart ↦ earlier at (omega arith)
     ]
 
--- Where one passes there is a last, and that comes no sooner.
+-- If one passes there is a last, and that comes no sooner.
 pub record HasLast (test : ℕ → Bool) (n t : ℕ) : Type 0 where
   pub last : ℕ
   pub is : last_such test n ≡ Some last

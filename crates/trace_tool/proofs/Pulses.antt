@@ -103,7 +103,7 @@ counts_at begin x t e = by (leb begin t) refl e
 pub steps_at : (begin : ℕ) (x : Signal) (t : ℕ) → Counts begin x t → steps begin x t ≡ true
 steps_at begin x t s = rw (le-leb begin t s.counts) (changed_from (x (t - 1)) (x t) s.changes)
 
--- no step, where steps count
+-- no step, if steps count
 stays_at : (begin : ℕ) (x : Signal) (t : ℕ) → begin ≤ t → steps begin x t ≡ false → x (t - 1) ≡ x t
 stays_at begin x t counts e = by (leb begin t) (le-leb begin t counts) e
   where

@@ -27,7 +27,7 @@ ended FailedRead = ReadFault
 ended FailedWrite = WriteFault
 ended OutOfMemory = NoMemory
 
--- the end that an outcome is of, where it says nothing of the text
+-- the end that an outcome is of, if it says nothing of the text
 abbrev pub end_of : TraceOutcome → Option CallEnd
 end_of Done = None
 end_of Broken = None

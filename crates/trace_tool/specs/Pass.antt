@@ -59,7 +59,7 @@ changed false true = Some true
 changed true false = Some false
 changed before now = None
 
--- the bit to which a signal steps at a tick, where steps count
+-- the bit to which a signal steps at a tick, if steps count
 abbrev pub step_at : ℕ → Signal → ℕ → Option Bool
 step_at begin x t = if nat_le begin t then changed (x (t - 1)) (x t) else None
 
@@ -228,7 +228,7 @@ abbrev pub AreAmong : ℕ → ℕ → Element → Type 0
 AreAmong instances nets (OfInstance k) = k < instances
 AreAmong instances nets (OfNet place) = place < nets
 
--- the one that ends sooner, or the earlier one where both end with one tick
+-- the one that ends sooner, or the earlier one if both end with one tick
 abbrev pub sooner_of : Option (Element × ℕ) → Element → Option ℕ → Option (Element × ℕ)
 sooner_of best e None = best
 sooner_of None e (Some last) = Some (e, last)

@@ -24,7 +24,7 @@ most_bits = 4000000
 
 -- ---- the case
 
--- what the case that is asked for sets, by its number from 1; case 0, where none is asked for, sets
+-- what the case that is asked for sets, by its number from 1; case 0, if none is asked for, sets
 -- nothing
 abbrev pub case_asked : Option ℕ → List (List CaseValue) → Option (List CaseValue)
 case_asked None cases = Some []

@@ -35,7 +35,7 @@ abbrev pub most_ticks : ℕ
 most_ticks = 4096
 
 -- Delays are those that a line says of an instance: none is above 4,095 ticks, and what the line
--- does not show of the pick is what it does, or 0 where it shows nothing.
+-- does not show of the pick is what it does, or 0 if it shows nothing.
 pub record IsPlain (i : Instance) (pick : ℕ × ℕ) (wires : List ℕ) : Type 0 where
   pub delays_small : AreSmall (shown (picks_count i.kind (two_delays i.kind i.split)) pick)
   pub wires_small : AreSmall wires

@@ -82,7 +82,7 @@ picked zero found = (0, 0)
 picked (suc zero) found = (slice_index_or found 0 0, slice_index_or found 0 0)
 picked (suc (suc more)) found = (slice_index_or found 0 0, slice_index_or found 1 0)
 
--- the pick that a line shows, where these wires' delays follow it
+-- the pick that a line shows, if these wires' delays follow it
 abbrev pub again : Kind → Option Split → ℕ × ℕ → List ℕ → ℕ × ℕ
 again kind two pick wires =
     picked (picks_count kind two) (shown (picks_count kind two) pick ++ wires)

@@ -30,7 +30,7 @@ line_order c =
 abbrev pub head_line : ℕ → List ℕ
 head_line ticks = concat (codes "TRACE " ∷ decimal ticks ∷ [])
 
--- one delay, or a hyphen where there is none
+-- one delay, or a hyphen if there is none
 abbrev pub delay_by : Form → ℕ × ℕ → List ℕ
 delay_by Gate pick = decimal pick.0
 delay_by Change pick = codes "-"

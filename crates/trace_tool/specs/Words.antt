@@ -1,4 +1,4 @@
--- The forms of words that the simulator has: `run T SEED`, then `case=K` where the run is to be in
+-- The forms of words that the simulator has: `run T SEED`, then `case=K` if the run is to be in
 -- a case; and `judge F`.
 use Rattle.std.specs.Prelude.{ℕ, ◌-◌, ◌^◌, ◌≤◌, ◌&&◌, nat_le, List, [], ◌∷◌, length, take, drop, codes, decimal, Option, Some, None, IfSome, Result, Ok, Err, if◌then◌else◌}
 use Rattle.std.specs.Str.{bytes_eq}
@@ -74,7 +74,7 @@ after_judge [] = Err 1
 after_judge (w ∷ ws) = with_from (number_in 0 most_ticks w) ws
 
 -- The form that the words have. Of other words it is the number of the first with which no form
--- goes on, or the count of words where one is missing.
+-- goes on, or the count of words if one is missing.
 abbrev pub command_of : List (List ℕ) → Result Command ℕ
 command_of [] = Err 0
 command_of (w ∷ ws) =

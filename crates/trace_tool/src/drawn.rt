@@ -19,7 +19,7 @@ use trace_sim::{draw, simulate};
 const MOST_BITS: u64 = 4_000_000;
 
 /// The trace of a run of so many ticks that a seed draws of the circuit of a text, in the case of a
-/// number from 1 where one is asked for; or why the text is refused, that there is no such case, or
+/// number from 1 if one is asked for; or why the text is refused, that there is no such case, or
 /// that the trace would have more than 4,000,000 bits.
 pub fn run(
     alloc: Global,

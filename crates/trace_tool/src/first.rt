@@ -81,7 +81,7 @@ fn element_end(
     }
 }
 
-// The break that ends sooner, or the earlier one where both end with one tick.
+// The break that ends sooner, or the earlier one if both end with one tick.
 fn sooner(best: Option<(Element, u16)>, e: Element, end: Option<u16>) -> Option<(Element, u16)>
     ensures { result ≡ sooner_of best e end }
 {
@@ -100,7 +100,7 @@ fn sooner(best: Option<(Element, u16)>, e: Element, end: Option<u16>) -> Option<
 
 /// The first break whose ticks all lie from a given one on, and its greatest tick: the one whose
 /// greatest tick is least, and of these that of the first element, instances by their numbers and
-/// then nets in name order. `None` comes exactly where nothing is broken from there on. Of the
+/// then nets in name order. `None` comes exactly if nothing is broken from there on. Of the
 /// choice the delays of wires alone count. Takes a time linear in pins times ticks.
 pub fn first_break(
     alloc: Global,

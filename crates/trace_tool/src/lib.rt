@@ -1,7 +1,7 @@
 //! The simulator: runs of a drawing's circuit, made and judged.
 //!
 //! `run T SEED` draws a run of so many ticks by the words of a generator that is seeded so, in a
-//! case where `case=K` follows; `judge F` says whether a trace is a run, and what breaks in it from
+//! case if `case=K` follows; `judge F` says whether a trace is a run, and what breaks in it from
 //! tick F on. The program calls [`trace_main`], the main call of `program_call` for [`Simulator`]
 //! (`specs/Simulator`); `specs/Ran` says what `run` replies, and `specs/Judged` what `judge` does.
 //!

@@ -17,7 +17,7 @@ pub enum TraceOutcome {
     /// The trace is no run: the tick and the net that show it are written.
     NotRun,
     /// The words are unrecognised. The number is that of the first with which no form continues,
-    /// from 0, or the count of words where one is missing. Nothing is read or written.
+    /// from 0, or the count of words if one is missing. Nothing is read or written.
     BadWords(u32),
     /// More bytes came than are read. Nothing is written.
     TooLong,
@@ -28,7 +28,7 @@ pub enum TraceOutcome {
     /// Memory ran out. Nothing is written.
     NoMemory,
     /// The line of the trace with this number, from 1, is not a valid line of a trace of the
-    /// circuit; or, where the number is 0, no line ends the trace. Nothing is written.
+    /// circuit; or, if the number is 0, no line ends the trace. Nothing is written.
     BadTrace(u32),
     /// There is no case of the number that was asked for: the drawing has so many. Nothing is
     /// written.

@@ -1,7 +1,7 @@
 //! A trace, read from the lines of a text.
 //!
 //! What a line says is found by its numbers, whatever stands between them, and the line is right
-//! exactly where it is the one that would be written of them.
+//! exactly if it is the one that would be written of them.
 
 ghost use Rattle.std.specs.Prelude.{◌≡◌, ◌==◌, ℕ, ◌≤◌, Bool, List, drop, length, map, slice_index_or, [], IfOk, MatchBool, MatchOption};
 ghost use Rattle.flat_circuit.specs.Split.{two_delays};
@@ -64,7 +64,7 @@ fn behind(alloc: Global, found: &[u16], count: usize) -> Result<Indices, NoMemor
 
 // ---- the head
 
-/// The first number of a line, or 0 where there is none.
+/// The first number of a line, or 0 if there is none.
 fn first_number(alloc: Global, line: &[u8]) -> Result<u16, NoMemory>
     ensures { IfOk result (λ first. first ≡ slice_index_or (numbers_of line.now) 0 0) }
 {
@@ -81,7 +81,7 @@ fn is_head(alloc: Global, ticks: u16, line: &[u8]) -> Result<bool, NoMemory>
     Ok(is_same(line, text.as_slice()))
 }
 
-/// The ticks that a head says, where it is one.
+/// The ticks that a head says, if it is one.
 pub(crate) fn read_head(alloc: Global, line: &[u8]) -> Result<Option<u16>, NoMemory>
     ensures { IfOk result (λ found. MatchOption found
         ((n : ℕ) → 1 ≤ n → n ≤ most_ticks → line.now ≡ head_line n → ⊥)
@@ -200,7 +200,7 @@ fn is_instance_line(
     Ok(is_same(line, text.as_slice()))
 }
 
-/// The delays that the line of an instance says, where it is one of a trace.
+/// The delays that the line of an instance says, if it is one of a trace.
 pub(crate) fn read_delays(
     alloc: Global,
     c: &Circuit,
@@ -261,7 +261,7 @@ fn is_net_line(
     Ok(is_same(line, text.as_slice()))
 }
 
-/// The bits that the line of a net says, where it is one of a trace of so many ticks.
+/// The bits that the line of a net says, if it is one of a trace of so many ticks.
 pub(crate) fn read_bits(
     alloc: Global,
     c: &Circuit,

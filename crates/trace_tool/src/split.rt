@@ -14,7 +14,7 @@ pub(crate) fn is_same(text: &[u8], other: &[u8]) -> bool
 }
 
 /// The first line of a text, without the byte 10 that ends it, and what follows it; `None` exactly
-/// where no line ends.
+/// if no line ends.
 pub(crate) fn next_line(text: &[u8]) -> Option<(&[u8], &[u8])>
     ensures { MatchOption result (lines_of text.now ≡ [])
         (λ p. StartsWith text.now p.0.now p.1.now) }
@@ -28,7 +28,7 @@ pub(crate) fn next_line(text: &[u8]) -> Option<(&[u8], &[u8])>
 }
 
 /// The lines of the trace with which a text begins, and the drawing that follows them; `None`
-/// exactly where no line of the text ends a trace.
+/// exactly if no line of the text ends a trace.
 pub fn split_trace(text: &[u8]) -> Option<(&[u8], &[u8])>
     ensures { MatchOption result (HasNoTrace text.now)
         (λ p. HasTrace text.now (lines_of p.0.now) p.1.now) }

@@ -29,7 +29,7 @@ fn changed(before: bool, now: bool) -> Option<bool>
     }
 }
 
-/// The bit to which a pin steps at a tick, where its steps count.
+/// The bit to which a pin steps at a tick, if its steps count.
 pub fn step_at(
     bits: &[Levels],
     i: &Instance,

@@ -44,7 +44,7 @@ fn keeps_at(c: &Circuit, ticks: u16, bits: &[Levels], place: u32) -> bool
 }
 
 /// The place in name order of the first net that nothing drives and whose bits do not keep its
-/// assertion; `None` exactly where each such net keeps it. There is a bit of each net for each
+/// assertion; `None` exactly if each such net keeps it. There is a bit of each net for each
 /// tick.
 pub fn first_stray(c: &Circuit, ticks: u16, bits: &[Levels]) -> Option<u32>
     requires { AreTraces (length c.now.nets) ticks bits.now }

@@ -16,7 +16,7 @@ use scald_base::{List, NoMemory};
 use std::alloc::Global;
 use trace_sim::{DelayPicks, Traces, WirePicks};
 
-/// Takes what a line says into a trace; `false` exactly where the line is wrong.
+/// Takes what a line says into a trace; `false` exactly if the line is wrong.
 fn take_line(
     alloc: Global,
     c: &Circuit,
@@ -141,7 +141,7 @@ fn begun(alloc: Global, c: &Circuit) -> Result<Trace, NoMemory>
     })
 }
 
-/// The trace of the circuit whose lines these are: those of `split_trace`. Where they are not, the
+/// The trace of the circuit whose lines these are: those of `split_trace`. If they are not, the
 /// first line that lacks the form, the name or the bounds of its place.
 pub fn read_trace(alloc: Global, c: &Circuit, lines: &[u8]) -> Result<Trace, TraceFault>
     requires { IsEnded (lines_of lines.now) }

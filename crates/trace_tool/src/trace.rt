@@ -12,7 +12,7 @@ use trace_sim::{DelayPicks, Traces, WirePicks};
 pub struct Trace {
     /// 1 to 4,096.
     pub ticks: u16,
-    /// Twice the same where an instance has one delay. What stands at a change function or at a
+    /// Twice the same if an instance has one delay. What stands at a change function or at a
     /// checker does not count.
     pub delays: DelayPicks,
     /// 0 on a constant.

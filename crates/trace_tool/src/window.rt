@@ -9,7 +9,7 @@ use element_kinds::Check;
 use flat_circuit::{Instance, Limits};
 use trace_sim::Levels;
 
-// The first of the two edges about which the input is to stay, where the second comes at this tick:
+// The first of the two edges about which the input is to stay, if the second comes at this tick:
 // a rise is both, and a fall ends what the step before it began.
 fn opened_by(check: Check, step: Option<bool>, last: Option<u16>, t: u16) -> Option<u16>
     ensures { result ≡ first_edge check step last t }

@@ -16,7 +16,7 @@ const MOST_CASES: u64 = 256;
 /// What the simulator is asked for.
 #[derive(Clone, Copy, PartialEq, Eq, Debug)]
 pub enum Command {
-    /// `run`: a run of 1 to 4,096 ticks, drawn by a seed, and in a case of 1 to 256 where one is
+    /// `run`: a run of 1 to 4,096 ticks, drawn by a seed, and in a case of 1 to 256 if one is
     /// asked for.
     Run {
         ticks: u16,
@@ -27,8 +27,8 @@ pub enum Command {
     Judge(u16),
 }
 
-/// What the words ask for. Where they are unrecognised, `Err` is the number of the first with which
-/// no form continues, from 0, or the count of words where one is missing.
+/// What the words ask for. If they are unrecognised, `Err` is the number of the first with which
+/// no form continues, from 0, or the count of words if one is missing.
 pub fn read_words(words: &Words) -> Result<Command, u32>
     ensures is { result ≡ command_of words.now }
     ensures within { IfOk result IsWithin }
@@ -45,7 +45,7 @@ pub fn read_words(words: &Words) -> Result<Command, u32>
     }
 }
 
-/// The command, where no word follows those that ask for it. Such a word would have this number.
+/// The command, if no word follows those that ask for it. Such a word would have this number.
 fn alone(command: Command, place: u32, others: &[Bytes]) -> Result<Command, u32>
     requires { IsWithin command }
     ensures is { result ≡ alone command place others.now }
@@ -150,7 +150,7 @@ fn number_in(least: u64, most: u64, digits: &[u8]) -> Option<u64>
     None
 }
 
-/// The value of digits, or the greatest number of 128 bits where it is greater.
+/// The value of digits, or the greatest number of 128 bits if it is greater.
 fn value(digits: &[u8]) -> u128
     ensures { result ≡ min (value_of digits.now) (2 ^ 128 - 1) }
 {

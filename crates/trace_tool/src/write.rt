@@ -18,7 +18,7 @@ use flat_circuit::{Circuit, Instance};
 use listing::{Piece, add_pieces, net_piece};
 use scald_base::{Bytes, NoMemory};
 
-/// The delays at an instance, or a hyphen where it has none in a run.
+/// The delays at an instance, or a hyphen if it has none in a run.
 fn delay_pieces(i: &Instance, pick: (u16, u16)) -> (Piece<'static>, Piece<'static>, Piece<'static>)
     ensures { piece_text result.0 ++ (piece_text result.1 ++ (piece_text result.2 ++ []))
         ≡ delay_text i.now.kind (two_delays i.now.kind i.now.split) pick }
@@ -145,7 +145,7 @@ fn add_ended(out: &mut Bytes, c: &Circuit, trace: &Trace, line: Line) -> Result<
 
 /// Puts the text of a trace of the circuit at the end of `out`: a line with its ticks, a line for
 /// each instance with the delays of it and of its pins' wires, a line for each net, in name order,
-/// with its bits, and a last line. Where memory runs out, a part of these lines may stand there.
+/// with its bits, and a last line. If memory runs out, a part of these lines may stand there.
 pub fn write_trace(c: &Circuit, trace: &Trace, out: &mut Bytes) -> Result<(), NoMemory>
     ensures ok { OnOk result (out.new ≡ out.old ++ trace_text c.now trace.now) }
     ensures err { OnErr result (HasPart out.old out.new (trace_text c.now trace.now)) }

@@ -71,13 +71,13 @@ fn len_of(bits: Result<Bits, VectorFault>) -> Option<usize> {
     }
 }
 
-/// How many bits there are where so many stand before so many others.
+/// How many bits there are if so many stand before so many others.
 fn joined_len(rt: &(impl Abort + AllocGlobal), one: u32, other: u32) -> Option<usize> {
     let (one, other) = (bits(rt, one), bits(rt, other));
     len_of(concat(rt.alloc(), &one, &other))
 }
 
-/// How many bits there are where so many are spread to a width.
+/// How many bits there are if so many are spread to a width.
 fn spread_len(rt: &(impl Abort + AllocGlobal), count: u32, width: u16) -> Option<usize> {
     len_of(spread(rt.alloc(), &bits(rt, count), width))
 }

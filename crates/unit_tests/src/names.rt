@@ -18,7 +18,7 @@ fn plain() -> Header {
     }
 }
 
-/// The same, where edges come up to 25 ticks early and late.
+/// The same, if edges come up to 25 ticks early and late.
 fn skewed() -> Header {
     Header {
         units: 8,

@@ -54,7 +54,7 @@ fn steps_of_values(rt: HostRuntime) {
     }
 }
 
-/// A set that has a step, with its cover where no argument was unknown, and where one was.
+/// A set that has a step, with its cover if no argument was unknown, and if one was.
 type CoverRow = (bool, bool, bool, bool, Value, Value);
 
 const COVERS: [CoverRow; 15] = [

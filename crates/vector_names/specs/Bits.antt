@@ -34,7 +34,7 @@ range_of _ _ = None
 abbrev pub bits_of : ℤ → ℤ → Option (List ℕ)
 bits_of first last = range_of (bit_number first) (bit_number last)
 
--- the one fault where there is no range
+-- the one fault if there is no range
 abbrev pub IsFaultOf : Option (List ℕ) → VectorFault → Type 0
 IsFaultOf range BadRange = range ≡ None
 IsFaultOf range Width = ⊥
@@ -52,7 +52,7 @@ IsJoinFault a b Width = concat a b ≡ None
 IsJoinFault a b BadRange = ⊥
 IsJoinFault a b NoMemory = Unit {0}
 
--- So many bits: these, where they are so many, and one bit again and again.
+-- So many bits: these, if they are so many, and one bit again and again.
 abbrev pub repeated : List BitRef → ℕ → Option (List BitRef)
 repeated (b ∷ []) width = Some (replicate width b)
 repeated _ width = None

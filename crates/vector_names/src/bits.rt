@@ -25,7 +25,7 @@ pub struct BitRef {
 /// The bits of a connection, in order.
 pub type Bits = List<BitRef>;
 
-/// The bits of one and then those of the other. `Width` comes exactly where more than 256 come.
+/// The bits of one and then those of the other. `Width` comes exactly if more than 256 come.
 pub fn concat(alloc: Global, a: &Bits, b: &Bits) -> Result<Bits, VectorFault>
     ensures { MatchResult result (λ bits. concat a.now b.now ≡ Some bits)
         (IsJoinFault a.now b.now) }
@@ -39,8 +39,8 @@ pub fn concat(alloc: Global, a: &Bits, b: &Bits) -> Result<Bits, VectorFault>
     Ok(bits)
 }
 
-/// So many bits: these, where they are so many, and a single bit again and again. `Width` comes
-/// exactly where they are neither so many nor one.
+/// So many bits: these, if they are so many, and a single bit again and again. `Width` comes
+/// exactly if they are neither so many nor one.
 pub fn spread(alloc: Global, a: &Bits, width: u16) -> Result<Bits, VectorFault>
     ensures { MatchResult result (λ bits. spread a.now width ≡ Some bits)
         (IsSpreadFault a.now width) }

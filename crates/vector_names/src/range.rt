@@ -14,7 +14,7 @@ pub type Indices = List<u16>;
 /// The most bits that a range or a connection may have.
 pub(crate) const WIDEST: usize = 256;
 
-/// The numbers from the first to the last, upwards or downwards. `BadRange` comes exactly where one
+/// The numbers from the first to the last, upwards or downwards. `BadRange` comes exactly if one
 /// of them is outside 0 to 65,535, or more than 256 come.
 pub fn bits_of(alloc: Global, first: i64, last: i64) -> Result<Indices, VectorFault>
     ensures { MatchResult result (λ numbers. bits_of first last ≡ Some numbers)

@@ -10,7 +10,7 @@ abbrev same_bit : Bool → Bool → Bool
 same_bit true bit = bit
 same_bit false bit = not bit
 
--- cells that may change or not: a join may where one of the two may
+-- cells that may change or not: a join may if one of the two may
 abbrev changes : Cells Bool
 changes = record {
   has = λ cell before after. cell || same_bit before after;

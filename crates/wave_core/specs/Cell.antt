@@ -11,7 +11,7 @@ pub record Cells (T : Type 0) : Type 0 where
   pub same : T → T → Bool
   pub any : T
 
--- The laws of cells. A cell is above another where their join is the first.
+-- The laws of cells. A cell is above another if their join is the first.
 pub record IsLawful {T : Type 0} (k : Cells T) : Type 0 where
   pub same_is : (v w : T) → k.same v w ≡ true → v ≡ w
   pub same_self : (v : T) → k.same v v ≡ true

@@ -35,7 +35,7 @@ pub trait CyclicWave: Sized + Drop {
         requires { slot < length (cells self.now) }
         ensures { slice_get (cells self.now) slot ≡ Some result };
 
-    /// The first slot after this one that has another cell than it, or the period where there is
+    /// The first slot after this one that has another cell than it, or the period if there is
     /// none: what is read off the cells from slot to slot may go on there.
     fn same_until(&self, slot: u16) -> u16
         requires { slot < length (cells self.now) }

@@ -5,7 +5,7 @@ ghost use Rattle.wave_core.specs.Slots.{FirstWhere};
 
 use crate::cyclic_wave::CyclicWave;
 
-/// The first of `count` places whose cell passes a test, or `None` where none of them does: the
+/// The first of `count` places whose cell passes a test, or `None` if none of them does: the
 /// cell at a place is that of slot `from + place`, counted round the period. The test is asked once
 /// for slots in a row that have one cell.
 pub fn first_where<W: CyclicWave, F: Fn(W::Item) -> bool>(

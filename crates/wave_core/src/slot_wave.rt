@@ -56,7 +56,7 @@ impl<T: Cell + Drop> SlotWave<T> {
         Ok(line)
     }
 
-    /// The cell `back` slots before a slot of this period or the next, where `line` has those
+    /// The cell `back` slots before a slot of this period or the next, if `line` has those
     /// cells.
     fn cell_before(&self, line: &[T], slot: usize, back: usize) -> T
         requires line { line.now ≡ line_of T.kind self.now.cells.items back }

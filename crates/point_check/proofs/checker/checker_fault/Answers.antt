@@ -11,22 +11,22 @@ pub fault_between-requires-clause-limits : goal.fault_between-requires-clause-li
 fault_between-requires-clause-limits g c =
     let ws = waves_of c.args.waves.now in
     let long : length c.in_ok-clock_wave.clock_wave.cells ≡ period c.args.c.now.header =
-    ap (λ (w : Wave Value). length w.cells) c.in_ok-clock_wave.ensures ∙ long_pin c.args.c.now ws c.args.clock c.requires.fit.each_slot c.requires.clock in
+    ap (λ (w : Wave Value). length w.cells) c.in_ok-clock_wave.ensures ∙ long_pin c.args.c.now ws c.args.asked.clock c.requires.fit.each_slot c.requires.clock in
     let within = c.requires.limits in
     omega (arith, long, within)
 
 pub fault_between-requires-clause-periods : goal.fault_between-requires-clause-periods
 fault_between-requires-clause-periods g c =
     let ws = waves_of c.args.waves.now in
-    ap (λ (w : Wave Value). length w.cells) c.in_ok-input_wave.ensures ∙ long_pin c.args.c.now ws c.args.input c.requires.fit.each_slot c.requires.input
-    ∙ sym (ap (λ (w : Wave Value). length w.cells) c.in_ok-clock_wave.ensures ∙ long_pin c.args.c.now ws c.args.clock c.requires.fit.each_slot c.requires.clock)
+    ap (λ (w : Wave Value). length w.cells) c.in_ok-input_wave.ensures ∙ long_pin c.args.c.now ws c.args.asked.input c.requires.fit.each_slot c.requires.input
+    ∙ sym (ap (λ (w : Wave Value). length w.cells) c.in_ok-clock_wave.ensures ∙ long_pin c.args.c.now ws c.args.asked.clock c.requires.fit.each_slot c.requires.clock)
 
 pub returns : goal.returns
 returns g c =
     let ws = waves_of c.args.waves.now in
     same_checker c.args.asked.kind (length c.in_ok-clock_wave.clock_wave.cells) (period c.args.c.now.header) c.args.asked.instance
-    c.in_ok-clock_wave.clock_wave (pin_wave c.args.c.now ws c.args.clock)
-    c.in_ok-input_wave.input_wave (pin_wave c.args.c.now ws c.args.input)
+    c.in_ok-clock_wave.clock_wave (pin_wave c.args.c.now ws c.args.asked.clock)
+    c.in_ok-input_wave.input_wave (pin_wave c.args.c.now ws c.args.asked.input)
     c.args.asked.limits c.in_ok-found.found
-    (ap (λ (w : Wave Value). length w.cells) c.in_ok-clock_wave.ensures ∙ long_pin c.args.c.now ws c.args.clock c.requires.fit.each_slot c.requires.clock)
+    (ap (λ (w : Wave Value). length w.cells) c.in_ok-clock_wave.ensures ∙ long_pin c.args.c.now ws c.args.asked.clock c.requires.fit.each_slot c.requires.clock)
     c.in_ok-clock_wave.ensures c.in_ok-input_wave.ensures c.in_ok-found.ensures

@@ -10,7 +10,7 @@ returns-in-Some-found g c =
     let kept = c.in-Some.kept in
     let again = c.if-not-is_again.ensures in
     ap Some c.for_instance.ensures ∙ sym (ap (option_map (of_instance c.args.asked.instance)) c.in-Some-found.is)
-    ∙ found_is c.args.c.now (waves_of c.args.waves.now) c.args.clock c.args.input kept.clock.wave kept.input.wave
+    ∙ found_is c.args.c.now (waves_of c.args.waves.now) c.args.asked.clock c.args.asked.input kept.clock.wave kept.input.wave
     kept.clock.wire kept.input.wire kept.clock.inverted kept.input.inverted kept.found (again.clock refl) (again.input refl)
     kept.asked.kind c.args.asked.kind c.args.asked.instance kept.asked.limits c.args.asked.limits (again.kind refl) (again.limits refl)
     kept.is
