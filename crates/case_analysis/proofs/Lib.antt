@@ -12,3 +12,4 @@ pub mod Answered
 pub mod Evaluated
 pub mod Tables
 pub mod ExamplesCases
+mod SameNets

@@ -3,3 +3,4 @@ pub mod Tick
 pub mod Case
 pub mod Found
 pub mod Listed
+pub mod Reached

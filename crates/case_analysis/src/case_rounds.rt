@@ -1,6 +1,7 @@
 //! The rounds of a case.
 
-ghost use Rattle.std.specs.Prelude.{◌≡◌, ◌≤◌, ◌+◌, ◌<◌, ℕ, Bool, List, IfErr, IfOk, MatchResult, [], length};
+ghost use Rattle.std.specs.Prelude.{◌≡◌, ◌≤◌, ◌+◌, ◌<◌, ℕ, Bool, List, IfErr, IfOk, IfSome, MatchResult, [], length};
+ghost use Rattle.std.specs.Option.{option_copied};
 ghost use Rattle.flat_circuit.specs.Instances.{outputs};
 ghost use Rattle.step_values.specs.declared.value.Value.{Value as OfValues};
 ghost use Rattle.skew_algebra.specs.Wave.{Wave};
@@ -15,10 +16,11 @@ ghost use Rattle.fixpoint_engine.specs.Settled.{marked_in};
 ghost use Rattle.fixpoint_engine.specs.Start.{unknown_wave};
 ghost use Rattle.case_analysis.specs.Base.{IsBase};
 ghost use Rattle.case_analysis.specs.Case.{EndsInCone, HasCone, IsCase, IsCone, NetsExist, PermitCase, case_active, case_at, case_round, case_start};
+ghost use Rattle.case_analysis.specs.Reached.{AreReached};
 
 use crate::base_rounds::unknown_wave;
-use crate::cones::cone;
-use crate::parts::{case_at, net_of};
+use crate::parts::case_at;
+use crate::reached::{Reached, own_reach};
 use fixpoint_engine::{
     Constants, EngineEnd, NetClasses, NetSet, Numbers, Settled, Store, constant_numbers, settle,
 };
@@ -88,21 +90,6 @@ fn start_numbers<W: CyclicWave<Item = Value>>(
     Ok((numbers, constants))
 }
 
-/// The driven nets of a cone.
-fn driven_in(alloc: Global, c: &Circuit, cone: &NetSet) -> Result<NetSet, NoMemory>
-    ensures each_net { IfOk result (λ set. length set ≡ length c.now.nets) }
-    ensures is { IfOk result (λ set.
-        (i : ℕ) → marked_in set i ≡ case_active c.now (marked_in cone.now) i) }
-{
-    let mut active = NetSet::new(alloc, c.net_count())?;
-    for net in 0..c.net_count() {
-        if cone.has(net) && net_of(c, net).driver.is_some() {
-            active.add(net);
-        }
-    }
-    Ok(active)
-}
-
 /// The settled waves of the case with this number from 0: its nets have their values, the other
 /// nets of its cone are unknown at the start, and all others keep the base's waves; rounds over the
 /// driven nets of the cone, until a round is as the one before, by one net of each class if
@@ -116,6 +103,7 @@ pub fn case_waves<W: CyclicWave<Item = Value>>(
     store: &mut Store<W>,
     cases: &CaseList,
     classes: &NetClasses,
+    shared: Option<&Reached>,
     base: &Settled,
     number: u32,
     limit: u32,
@@ -124,6 +112,8 @@ pub fn case_waves<W: CyclicWave<Item = Value>>(
     requires classes { AreClasses c.now cases.now classes.now }
     requires number { number < length cases.now }
     requires exist { NetsExist c.now (case_at cases.now number) }
+    requires shared { IfSome (option_copied shared)
+        (AreReached c.now (case_at cases.now number)) }
     requires base { IsBase c.now base.now.rounds base.now.rounds
         (waves_of (waves_at store.old base.now.numbers)) }
     requires fit { FitWaves c.now (waves_at store.old base.now.numbers) }
@@ -154,12 +144,12 @@ pub fn case_waves<W: CyclicWave<Item = Value>>(
     c.known();
     c.header().known();
     let case = case_at(cases, number);
-    let cone = cone(alloc, c, case)?;
-    let (start, constants) = start_numbers(alloc, c, store, case, &cone, &base.numbers)?;
-    let active = driven_in(alloc, c, &cone)?;
+    let reached = own_reach(alloc, c, case, shared)?;
+    let (start, constants) = start_numbers(alloc, c, store, case, &reached.cone, &base.numbers)?;
+    let active = &reached.active;
     let nets = classes.nets.as_ref();
     let hearers = &classes.hearers;
     settle(
-        alloc, c, store, constants, nets, hearers, &start, &active, limit,
+        alloc, c, store, constants, nets, hearers, &start, active, limit,
     )
 }

@@ -15,6 +15,7 @@ mod case_rounds;
 mod cones;
 mod parts;
 mod printed_tick;
+mod reached;
 
 pub use base_rounds::{base, default_limit, driven_nets, start_numbers};
 pub use case_list::check_cases;
@@ -22,3 +23,4 @@ pub use case_rounds::case_waves;
 pub use cones::cone;
 pub use parts::case_at;
 pub use printed_tick::{reach, tick};
+pub use reached::{Reached, shared_reach};

@@ -14,10 +14,12 @@ pub fn feed<W: CyclicWave<Item = Value>, H: Hasher>(wave: &W, state: &mut H)
     ensures { state.new ≡ fold H.write state.old (cells_fed (W.cells wave.now)) }
 {
     let period = wave.period();
+    let mut count = 0;
     let mut slot = 0;
     'runs: while slot < period {
-        let (cell, end) = wave.run_at(slot);
+        let (cell, end) = wave.run_after(count, slot);
         state.write_u32(u32::from(cell.letter()) * 65_536 + u32::from(period - end));
+        count += 1;
         slot = end;
     }
 }

@@ -3,26 +3,15 @@
 use step_values::Value;
 use wave_core::CyclicWave;
 
-/// So many runs of a wave are counted. A wave with more is taken to have one in each slot.
-const FEW_RUNS: usize = 64;
-
 /// What a wave takes beside its runs, with its place in the table.
 const WAVE_WORDS: usize = 32;
 
 /// So many words of four bytes may come in that are not needed: 16 MB.
 const SPARE_WORDS: usize = 4_194_304;
 
-/// How many words of four bytes a wave takes, at most, that is kept as runs.
+/// How many words of four bytes a wave takes that is kept as runs.
 pub fn wave_words<W: CyclicWave<Item = Value>>(wave: &W) -> usize {
-    let period = wave.period();
-    let mut slot = 0;
-    for runs in 0..FEW_RUNS {
-        if slot >= period {
-            return WAVE_WORDS + runs;
-        }
-        slot = wave.same_until(slot);
-    }
-    WAVE_WORDS + usize::from(period)
+    WAVE_WORDS.saturating_add(wave.run_count())
 }
 
 /// How many words of four bytes came in.

@@ -31,6 +31,14 @@ impl NetSet {
         Ok(NetSet { marks })
     }
 
+    /// The same set once more.
+    pub fn copy(&self, alloc: Global) -> Result<NetSet, NoMemory>
+        ensures { IfOk result (λ set. set ≡ self.now) }
+    {
+        let marks = Vec::from_slice(alloc, &self.marks)?;
+        Ok(NetSet { marks })
+    }
+
     /// Puts a net into the set.
     pub fn add(&mut self, net: u32)
         requires { net < length self.old }

@@ -58,9 +58,5 @@ pub fn renumbered<W: CyclicWave<Item = Value>>(
 pub fn copied(alloc: Global, numbers: &[u32]) -> Result<Numbers, NoMemory>
     ensures { IfOk result (λ same. same ≡ numbers.now) }
 {
-    let mut same: Numbers = List::with_room(alloc, numbers.len())?;
-    for number in numbers {
-        same.push(*number)?;
-    }
-    Ok(same)
+    List::from_slice(alloc, numbers)
 }

@@ -134,9 +134,9 @@ pub fn write_fault(c: &Circuit, fault: &Fault, out: &mut Bytes) -> Result<(), No
         out,
         &[
             fault_piece(*fault),
-            Piece::Text(b" "),
+            Piece::Byte(b' '),
             element_piece(c, *fault),
-            Piece::Text(b" "),
+            Piece::Byte(b' '),
         ],
     )?;
     add_place(out, c, *fault)
@@ -148,7 +148,7 @@ pub fn write_unnamed_fault(c: &Circuit, fault: &Fault, out: &mut Bytes) -> Resul
     ensures ok { OnOk result (out.new ≡ out.old ++ unnamed_fault c.now fault.now) }
     ensures err { OnErr result (HasPart out.old out.new (unnamed_fault c.now fault.now)) }
 {
-    add_pieces(out, &[fault_piece(*fault), Piece::Text(b" ")])?;
+    add_pieces(out, &[fault_piece(*fault), Piece::Byte(b' ')])?;
     add_place(out, c, *fault)
 }
 

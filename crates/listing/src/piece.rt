@@ -24,11 +24,14 @@ pub enum Piece<'a> {
     Bit(&'a [u8], u16),
 }
 
-/// A number, in decimal.
-fn add_number(out: &mut Bytes, number: u64) -> Result<(), NoMemory>
+/// A number, in decimal. Many have one digit.
+pub fn add_number(out: &mut Bytes, number: u64) -> Result<(), NoMemory>
     ensures ok { OnOk result (out.new ≡ out.old ++ decimal number) }
     ensures err { OnErr result (out.new ≡ out.old) }
 {
+    if number < 10 {
+        return out.push(b'0' + number as u8);
+    }
     out.extend(Buffer::new().format(number).as_bytes())
 }
 
@@ -40,12 +43,13 @@ fn add_bit(out: &mut Bytes, name: &[u8], bit: u16) -> Result<(), NoMemory>
         (bit_text (record { text = name.now; bit = bit }))) }
 {
     out.extend(name)?;
-    out.extend(b"<")?;
+    out.push(b'<')?;
     add_number(out, u64::from(bit))?;
-    out.extend(b">")
+    out.push(b'>')
 }
 
 /// One piece.
+#[inline(always)]
 fn add_piece(out: &mut Bytes, piece: &Piece) -> Result<(), NoMemory>
     ensures ok { OnOk result (out.new ≡ out.old ++ piece_text piece.now) }
     ensures err { OnErr result (HasPart out.old out.new (piece_text piece.now)) }
@@ -59,6 +63,7 @@ fn add_piece(out: &mut Bytes, piece: &Piece) -> Result<(), NoMemory>
 }
 
 /// Pieces, one after another.
+#[inline(always)]
 pub fn add_pieces(out: &mut Bytes, pieces: &[Piece]) -> Result<(), NoMemory>
     ensures ok { OnOk result (out.new ≡ out.old ++ flat_map piece_text pieces.now) }
     ensures err { OnErr result (HasPart out.old out.new (flat_map piece_text pieces.now)) }

@@ -4,7 +4,7 @@ ghost use Rattle.std.specs.Prelude.{◌≡◌, ◌++◌, OnErr, OnOk};
 ghost use Rattle.listing.specs.Run.{AreRuns, Run, run_text, runs, runs_text};
 ghost use Rattle.listing.specs.Text.{HasPart};
 
-use crate::piece::{Piece, add_pieces};
+use crate::piece::add_number;
 use scald_base::{Bytes, NoMemory};
 use step_values::Value;
 use wave_core::CyclicWave;
@@ -16,15 +16,10 @@ fn add_run(out: &mut Bytes, value: Value, width: u16) -> Result<(), NoMemory>
     ensures err { let run : Run = record { value = value; width = width } in
         OnErr result (HasPart out.old out.new (run_text run)) }
 {
-    add_pieces(
-        out,
-        &[
-            Piece::Text(b" "),
-            Piece::Byte(value.letter()),
-            Piece::Text(b":"),
-            Piece::Number(u64::from(width)),
-        ],
-    )
+    out.push(b' ')?;
+    out.push(value.letter())?;
+    out.push(b':')?;
+    add_number(out, u64::from(width))
 }
 
 /// The runs of equal values of a wave, from slot 0 to the period's end.
@@ -36,10 +31,12 @@ pub fn add_runs<W: CyclicWave<Item = Value>>(out: &mut Bytes, wave: &W) -> Resul
     ensures are { AreRuns (W.cells wave.now) (runs (W.cells wave.now)) }
 {
     let period = wave.period();
+    let mut count = 0;
     let mut slot = 0;
-    while slot < period {
-        let end = wave.same_until(slot);
-        add_run(out, wave.at(slot), end - slot)?;
+    'runs: while slot < period {
+        let (value, end) = wave.run_after(count, slot);
+        add_run(out, value, end - slot)?;
+        count += 1;
         slot = end;
     }
     Ok(())

@@ -9,11 +9,11 @@ use Rattle.wave_core.specs.Slots.{slots_from, slots, earlier, later, join_to, fo
 use Rattle.wave_core.proofs.Slots.{length_slots, earlier_slots}
 use Rattle.wave_core.proofs.Fold.{join_to_same}
 
-slots_from_same : {T : Type 0} (n i : ℕ) (f h : ℕ → T) → ((p : ℕ) → f p ≡ h p) → slots_from n i f ≡ slots_from n i h
+pub slots_from_same : {T : Type 0} (n i : ℕ) (f h : ℕ → T) → ((p : ℕ) → f p ≡ h p) → slots_from n i f ≡ slots_from n i h
 slots_from_same zero i f h e = refl
 slots_from_same (suc n) i f h e = let first = e i in let rest = slots_from_same n (i + 1) f h e in λ j. first j ∷ rest j
 
-zipped_from : {A B : Type 0} (n i : ℕ) (f : ℕ → A) (h : ℕ → A) (j : A → A → B) →
+pub zipped_from : {A B : Type 0} (n i : ℕ) (f : ℕ → A) (h : ℕ → A) (j : A → A → B) →
     map (λ (p : A × A). j p.0 p.1) (zip (slots_from n i f) (slots_from n i h)) ≡ slots_from n i (λ p. j (f p) (h p))
 zipped_from zero i f h j = refl
 zipped_from {B = B} (suc n) i f h j = ap (λ (l : List B). j (f i) (h i) ∷ l) (zipped_from n (i + 1) f h j)
@@ -23,7 +23,7 @@ module _ {T : Type 0} (k : Cells T) (laws : IsLawful k) where
   above_through : (u v w : T) → k.join u v ≡ u → k.join v w ≡ v → k.join u w ≡ u
   above_through u v w h h' = ap (λ c. k.join c w) (sym h) ∙ laws.join_regroups u v w ∙ ap (λ c. k.join u c) h' ∙ h
 
-  above_both : (u v : T) → k.join u v ≡ u → k.join v u ≡ v → u ≡ v
+  pub above_both : (u v : T) → k.join u v ≡ u → k.join v u ≡ v → u ≡ v
   above_both u v h h' = sym h ∙ laws.join_turns u v ∙ h'
 
   above_next : (f : ℕ → T) (n i : ℕ) → (i < suc n) ⊎ (suc n ≤ i) → i ≤ suc n → (i < suc n → k.join (join_to k f n) (f i) ≡ join_to k f n) →
@@ -34,13 +34,13 @@ module _ {T : Type 0} (k : Cells T) (laws : IsLawful k) where
       let e : i ≡ suc n = omega arith in
       ap (λ (z : ℕ). k.join (k.join (join_to k f n) (f (suc n))) (f z)) e ∙ laws.join_above_right (join_to k f n) (f (suc n))
 
-  above_each : (f : ℕ → T) (n i : ℕ) → i ≤ n → k.join (join_to k f n) (f i) ≡ join_to k f n
+  pub above_each : (f : ℕ → T) (n i : ℕ) → i ≤ n → k.join (join_to k f n) (f i) ≡ join_to k f n
   above_each f zero i within =
       let e : i ≡ 0 = omega arith in ap (λ (z : ℕ). k.join (f 0) (f z)) e ∙ laws.join_absorbs (f 0)
   above_each f (suc n) i within =
       above_next f n i (cases_lt i (suc n)) within (λ before. above_each f n i (omega arith))
 
-  above_all : (f : ℕ → T) (n : ℕ) (u : T) → ((i : ℕ) → i ≤ n → k.join u (f i) ≡ u) → k.join u (join_to k f n) ≡ u
+  pub above_all : (f : ℕ → T) (n : ℕ) (u : T) → ((i : ℕ) → i ≤ n → k.join u (f i) ≡ u) → k.join u (join_to k f n) ≡ u
   above_all f zero u h = h 0 (omega arith)
   above_all f (suc n) u h =
       laws.join_least (join_to k f n) (f (suc n)) u (above_all f n u (λ i l. h i (omega arith))) (h (suc n) (omega arith))

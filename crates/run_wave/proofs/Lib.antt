@@ -6,4 +6,5 @@ mod Marks
 mod Zipped
 mod Joined
 mod Doubled
+mod Wide
 mod Examples

@@ -1,6 +1,8 @@
 -- The run that a slot is in: its cell is the slot's, and where it ends the next cell is another.
-use Rattle.std.proofs.Common.{◌≡◌, ◌≢◌, ℕ, zero, suc, ◌+◌, ◌-◌, ◌<◌, ◌≤◌, List, [], ◌∷◌, ◌++◌, length, get_or, take, drop, Some, refl, sym, ap, ◌∙◌, arith}
+use Rattle.std.proofs.Common.{◌≡◌, ◌≢◌, ℕ, zero, suc, ◌+◌, ◌-◌, ◌<◌, ◌≤◌, ◌⊎◌, inl, inr, List, [], ◌∷◌, ◌++◌, length, get_or, take, drop, Some, refl, sym, ap, ◌∙◌, arith}
 use Rattle.std.specs.Prelude.{replicate, slice_get, unwrap_or}
+use Rattle.std.proofs.lemmas.Bool.{cases_lt}
+use Rattle.std.proofs.lemmas.List.{take_all}
 use Rattle.run_wave.specs.declared.run.Run.{Run}
 use Rattle.run_wave.specs.Run.{cells_of, BeginsWithout, IsRuns}
 use Rattle.wave_core.specs.Slots.{SameUntil}
@@ -58,7 +60,7 @@ module _ {T : Type 0} where
             other_behind rs i r below is runs (sym next ∙ e ∙ here);
       }
 
-  item : (rs : List (Run T)) (i : ℕ) → i < length rs → (r : Run T) × (r ≡ get_or rs i r)
+  pub item : (rs : List (Run T)) (i : ℕ) → i < length rs → (r : Run T) × (r ≡ get_or rs i r)
   item [] i below = absurd (omega arith)
   item (r ∷ rs) zero below = (r, refl)
   item (r ∷ rs) (suc i) below = item rs i (omega arith)
@@ -69,3 +71,13 @@ module _ {T : Type 0} where
   run_ends rs i slot end below runs begun behind last =
       let r = item rs i below in
       ends_at rs i slot end r.0 below r.1 runs begun behind last
+
+  -- the run after so many, which end before the last slot
+  pub run_is_there : (rs : List (Run T)) (runs slot : ℕ) → slot < length (cells_of rs) → slot ≡ length (cells_of (take runs rs)) → runs < length rs
+  run_is_there rs runs slot below ended = go (cases_lt runs (length rs))
+    where
+      go : (runs < length rs) ⊎ (length rs ≤ runs) → runs < length rs
+      go (inl there) = there
+      go (inr past) =
+          let all : length (cells_of (take runs rs)) ≡ length (cells_of rs) = ap (λ (l : List (Run T)). length (cells_of l)) (take_all runs rs past) in
+          absurd (omega (arith, below, ended, all))

@@ -1,6 +1,7 @@
 //! A list of runs that grows.
 
 ghost use Rattle.std.specs.Prelude.{◌≡◌, ◌≤◌, ◌<◌, ◌+◌, ◌-◌, ◌^◌, ◌++◌, ◌∷◌, [], ◌↔◌, IsTrue, OnOk, IfOk, length, replicate, take, drop, slice_get, slice_index_or};
+ghost use Rattle.std.specs.List.{All};
 ghost use Rattle.std.proofs.Props.{props};
 ghost use Rattle.run_wave.specs.Mark.{AreMarks};
 ghost use Rattle.run_wave.specs.Run.{EndsWith, IsRuns, IsRuns_prop, cells_of};
@@ -72,6 +73,18 @@ impl<T: Cell + Drop> RunList<T> {
     /// How many runs there are.
     pub fn run_count(&self) -> usize {
         self.runs.len()
+    }
+
+    /// Whether each run has so many slots.
+    pub fn are_wide(&self, width: u16) -> bool
+        ensures { IsTrue result → All (λ r. width ≤ r.width) self.now.runs.items }
+    {
+        for run in &self.runs {
+            if run.width < width {
+                return false;
+            }
+        }
+        true
     }
 
     /// Whether the last run has this cell.
@@ -235,6 +248,18 @@ impl<T: Cell + Drop> RunList<T> {
     {
         let (place, end) = self.run_with(slot);
         (self.runs[place].cell, end)
+    }
+
+    /// What `run_at` gives of the slot where so many runs end.
+    pub fn run_after(&self, runs: usize, slot: u16) -> (T, u16)
+        requires slot { slot < length (cells_of self.now.runs.items) }
+        requires runs { slot ≡ length (cells_of (take runs self.now.runs.items)) }
+        ensures cell { slice_get (cells_of self.now.runs.items) slot ≡ Some result.0 }
+        ensures end { SameUntil (cells_of self.now.runs.items) slot result.1 }
+        ensures next { result.1 ≡ length (cells_of (take (runs + 1) self.now.runs.items)) }
+    {
+        let run = self.runs[runs];
+        (run.cell, slot + run.width)
     }
 
     /// The slots from one of them on: what is left of its run, and the runs after it.

@@ -1,6 +1,6 @@
 //! A wave that keeps its cells as runs.
 
-ghost use Rattle.std.specs.Prelude.{◌≡◌, ◌<◌, IfOk, length, map, zip};
+ghost use Rattle.std.specs.Prelude.{◌≡◌, ◌<◌, IfOk, length, map, refl, take, zip};
 ghost use Rattle.std.specs.List.{sum_by};
 ghost use Rattle.run_wave.specs.Run.{IsRuns, cells_of};
 ghost use Rattle.wave_core.specs.Slots.{IsPeriod, later};
@@ -64,6 +64,10 @@ impl<T: Cell + Drop> CyclicWave for RunWave<T> {
 
     ghost cells = { λ w. cells_of w.list.runs.items };
 
+    ghost ends_at = { λ w runs slot. slot ≡ length (cells_of (take runs w.list.runs.items)) };
+
+    ghost none_end = { λ w. refl };
+
     ghost sized = { λ w. w.sized };
 
     fn uniform(alloc: Global, period: u16, cell: T) -> Result<RunWave<T>, NoMemory> {
@@ -94,6 +98,14 @@ impl<T: Cell + Drop> CyclicWave for RunWave<T> {
 
     fn run_at(&self, slot: u16) -> (T, u16) {
         self.list.run_at(slot)
+    }
+
+    fn run_after(&self, runs: usize, slot: u16) -> (T, u16) {
+        self.list.run_after(runs, slot)
+    }
+
+    fn run_count(&self) -> usize {
+        self.list.run_count()
     }
 
     fn equal(&self, other: &RunWave<T>) -> bool {
@@ -139,11 +151,14 @@ impl<T: Cell + Drop> CyclicWave for RunWave<T> {
         Ok(RunWave { list })
     }
 
-    /// By doubling: the folds over twice as many slots are those over half of them, joined with
-    /// themselves that much later.
+    /// Where no run is narrower, a slot sees two runs at most. Else by doubling: the folds over
+    /// twice as many slots are those over half of them, joined with themselves that much later.
     fn fold(&self, alloc: Global, back: u16) -> Result<RunWave<T>, NoMemory> {
         if back == 0 {
             return self.copy(alloc);
+        }
+        if self.list.are_wide(back) {
+            return self.joined_later(alloc, back);
         }
         let mut wave = self.joined_later(alloc, 1)?;
         let mut reach = 1;

@@ -119,6 +119,7 @@ impl Bytes {
     }
 
     /// Puts a byte at the end. If memory runs out the bytes are as before.
+    #[inline(always)]
     pub fn push(&mut self, byte: u8) -> Result<(), NoMemory>
         ensures ok { OnOk result (self.new ≡ self.old ++ byte ∷ []) }
         ensures err { OnErr result (self.new ≡ self.old) }
@@ -128,6 +129,7 @@ impl Bytes {
     }
 
     /// Puts bytes at the end. If memory runs out they are as before.
+    #[inline(always)]
     pub fn extend(&mut self, bytes: &[u8]) -> Result<(), NoMemory>
         ensures ok { OnOk result (self.new ≡ self.old ++ bytes.now) }
         ensures err { OnErr result (self.new ≡ self.old) }

@@ -104,6 +104,16 @@ impl<T> List<T> {
     }
 }
 
+impl<T: Copy> List<T> {
+    /// These items once more.
+    pub fn from_slice(alloc: Global, items: &[T]) -> Result<List<T>, NoMemory>
+        ensures { IfOk result (λ list. list ≡ items.now) }
+    {
+        let items = Vec::from_slice(alloc, items)?;
+        Ok(List { items })
+    }
+}
+
 impl<T: Drop> List<T> {
     /// Appends an item. If memory runs out the list is as before, and the item is dropped.
     pub fn push(&mut self, item: T) -> Result<(), NoMemory>

@@ -28,7 +28,8 @@ pub enum Piece {
     Lexeme(TokenKind, usize),
 }
 
-/// The piece in front, or `None` exactly if none begins there.
+/// The piece in front, or `None` exactly if none begins there. The most frequent are looked for
+/// first.
 #[tactic(auto, unfolding(crate::specs::Piece::piece_at))]
 pub fn front(rest: &[u8]) -> Option<Piece>
     ensures { result ≡ piece_at rest.now }
@@ -39,6 +40,8 @@ pub fn front(rest: &[u8]) -> Option<Piece>
     let byte = *byte;
     if bytes::is_letter(byte) {
         word(rest)
+    } else if byte != b'-' && bytes::is_symbol(byte) {
+        Some(Piece::Lexeme(TokenKind::Symbol(byte), 1))
     } else if bytes::is_space(byte) {
         Some(Piece::Space)
     } else if byte == b'\n' {
@@ -49,8 +52,6 @@ pub fn front(rest: &[u8]) -> Option<Piece>
         name(behind)
     } else if byte == b'-' {
         Some(dash(behind))
-    } else if bytes::is_symbol(byte) {
-        Some(Piece::Lexeme(TokenKind::Symbol(byte), 1))
     } else {
         None
     }

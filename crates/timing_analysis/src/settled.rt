@@ -131,6 +131,7 @@ impl Subject {
             &mut settled_base.store,
             &self.cases,
             &self.classes,
+            self.reached.as_ref(),
             &settled_base.base,
             place,
             limit,

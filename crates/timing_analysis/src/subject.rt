@@ -6,7 +6,7 @@ ghost use Rattle.case_analysis.specs.Case.{NetsExist};
 ghost use Rattle.timing_analysis.specs.Subject.{IsSubject};
 
 use crate::Drawn;
-use case_analysis::reach;
+use case_analysis::{Reached, reach, shared_reach};
 use fixpoint_engine::NetClasses;
 use flat_circuit::{CaseList, Circuit};
 use scald_base::NoMemory;
@@ -20,6 +20,8 @@ pub struct Subject {
     pub cases: CaseList,
     /// The classes of its nets, by which rounds go.
     pub classes: NetClasses,
+    /// The nets that each of its cases reaches, where all set the same nets.
+    pub reached: Option<Reached>,
     /// How many ticks later than a round the next one holds.
     pub reach: u32,
 }
@@ -35,11 +37,13 @@ impl Subject {
     {
         let Drawn { circuit, cases } = drawn;
         let classes = NetClasses::of(alloc, &circuit, &cases)?;
+        let reached = shared_reach(alloc, &circuit, &cases)?;
         let reach = reach(&circuit);
         Ok(Subject {
             circuit,
             cases,
             classes,
+            reached,
             reach,
         })
     }

@@ -1,6 +1,6 @@
 //! A wave over one period.
 
-ghost use Rattle.std.specs.Prelude.{◌≡◌, ◌<◌, ◌↔◌, IsTrue, IfOk, List, length, zip, slice_get};
+ghost use Rattle.std.specs.Prelude.{◌≡◌, ◌+◌, ◌<◌, ◌↔◌, ℕ, IsTrue, IfOk, List, length, zip, slice_get};
 ghost use Rattle.std.specs.List.{AllZip};
 ghost use Rattle.wave_core.specs.Slots.{IsPeriod, SameUntil, folded, later, slots};
 
@@ -15,6 +15,9 @@ pub trait CyclicWave: Sized + Drop {
 
     /// The cells, slot by slot.
     ghost cells: { Self → List Self.Item };
+
+    /// So many of the runs in which the wave is kept end where this slot begins.
+    ghost ends_at: { Self → ℕ → ℕ → Type 0 };
 
     /// The wave of `period` slots that has the cell in each of them.
     fn uniform(alloc: Global, period: u16, cell: Self::Item) -> Result<Self, NoMemory>
@@ -59,6 +62,18 @@ pub trait CyclicWave: Sized + Drop {
         (self.at(slot), self.same_until(slot))
     }
 
+    /// What `run_at` gives of the slot where so many runs end, without a search: for a walk from run
+    /// to run, which begins with no run at slot 0.
+    fn run_after(&self, runs: usize, slot: u16) -> (Self::Item, u16)
+        requires slot { slot < length (cells self.now) }
+        requires runs { ends_at self.now runs slot }
+        ensures cell { slice_get (cells self.now) slot ≡ Some result.0 }
+        ensures end { SameUntil (cells self.now) slot result.1 }
+        ensures next { ends_at self.now (runs + 1) result.1 };
+
+    /// How many runs the wave is kept in, each of which takes room.
+    fn run_count(&self) -> usize;
+
     /// Whether the two have the same cells.
     fn equal(&self, other: &Self) -> bool
         ensures { IsTrue result ↔ (cells self.now ≡ cells other.now) };
@@ -93,6 +108,9 @@ pub trait CyclicWave: Sized + Drop {
     /// A wave with the same cells.
     fn copy(&self, alloc: Global) -> Result<Self, NoMemory>
         ensures { IfOk result (λ w. cells w ≡ cells self.now) };
+
+    /// No run ends at slot 0.
+    ghost none_end: { (w : Self) → ends_at w 0 0 };
 
     /// How many slots there may be.
     ghost sized: { (w : Self) → IsPeriod (length (cells w)) };

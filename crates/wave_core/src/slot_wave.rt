@@ -131,6 +131,11 @@ impl<T: Cell + Drop> CyclicWave for SlotWave<T> {
 
     ghost cells = { λ w. w.cells.items };
 
+    // Each slot is a run: nothing is to be known of how many there were.
+    ghost ends_at = { λ w runs slot. Unit {0} };
+
+    ghost none_end = { λ w. tt };
+
     ghost sized = { λ w. w.sized };
 
     fn uniform(alloc: Global, period: u16, cell: T) -> Result<SlotWave<T>, NoMemory> {
@@ -152,6 +157,14 @@ impl<T: Cell + Drop> CyclicWave for SlotWave<T> {
 
     fn at(&self, slot: u16) -> T {
         self.cells[slot as usize]
+    }
+
+    fn run_after(&self, _runs: usize, slot: u16) -> (T, u16) {
+        self.run_at(slot)
+    }
+
+    fn run_count(&self) -> usize {
+        self.cells.len()
     }
 
     fn equal(&self, other: &SlotWave<T>) -> bool {

@@ -9,6 +9,6 @@ returns-in_err-add_number-clause-err c =
     at_err c.from_residual-in_err-add_number.result (record {
       part = name ++ 60 ∷ [];
       rest = decimal c.args.bit ++ 62 ∷ [];
-      added = c.in_err-add_number.ensures.err ∙ both c.args.out.now c.extend.new.self c.extend-2.new.self name (60 ∷ []) c.in_ok-extend.ensures.ok c.in_ok-extend-2.ensures.ok;
+      added = c.in_err-add_number.ensures.err ∙ both c.args.out.now c.extend.new.self c.push.new.self name (60 ∷ []) c.in_ok-extend.ensures.ok c.in_ok-push.ensures.ok;
       is = append_assoc name (60 ∷ []) (decimal c.args.bit ++ 62 ∷ []);
     })

@@ -5,6 +5,7 @@ use Rattle.wave_core.specs.Slots.{fold_at, folded}
 use Rattle.run_wave.specs.Run.{cells_of}
 use Rattle.run_wave.proofs.Turned.{folded_none}
 use Rattle.run_wave.proofs.Doubled.{doubled_step}
+use Rattle.run_wave.proofs.Wide.{wide_folded}
 use Rattle.run_wave.proofs.run_wave.RunWaveCyclicWave.fold.Goals as goal
 
 pub returns-then-back-eq0 : goal.returns-then-back-eq0
@@ -19,6 +20,18 @@ returns-then-back-eq0 g c =
 
 pub joined_later-requires-clause-below : goal.joined_later-requires-clause-below
 joined_later-requires-clause-below g c =
+    let counted = c.args.self.now.list.counted in
+    omega (arith, counted, c.requires)
+
+pub returns-then-are_wide : goal.returns-then-are_wide
+returns-then-are_wide g c =
+    let xs = cells_of c.args.self.now.list.runs.items in
+    IfOk-weaker c.joined_later.result _ (λ w. cells_of w.list.runs.items ≡ folded g.T.Cell.kind xs c.args.back)
+    (λ w e. e ∙ wide_folded g.T.Cell.kind g.met.T.Cell.laws c.args.self.now.list.runs.items c.args.back (c.are_wide.ensures c.if-are_wide.true) c.requires)
+    c.joined_later.ensures
+
+pub joined_later-requires-2-clause-below : goal.joined_later-requires-2-clause-below
+joined_later-requires-2-clause-below g c =
     let counted = c.args.self.now.list.counted in
     omega (arith, counted, c.requires, c.if-back-eq0.false)
 
