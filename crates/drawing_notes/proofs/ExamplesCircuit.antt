@@ -7,7 +7,7 @@ use Rattle.scald_base.specs.declared.assertion.AssertSpec.{AssertSpec}
 use Rattle.scald_base.specs.declared.assertion.AssertSpec.TheVariants.{None as Unasserted, Stable}
 use Rattle.vector_names.specs.declared.bits.Target.TheVariants.{Net as OnNet, Constant}
 use Rattle.element_kinds.specs.declared.kind.Kind.{Kind}
-use Rattle.element_kinds.specs.declared.kind.Kind.TheVariants.{And, Buf, Chg, Reg, Latch, SetupHold, RiseFall, MinPulse}
+use Rattle.element_kinds.specs.declared.kind.Kind.TheVariants.{And, Buf, Chg, Reg, RegRs, Latch, LatchRs, SetupHold, RiseFall, MinPulse}
 use Rattle.flat_circuit.specs.declared.instance.Pin.{Pin}
 use Rattle.flat_circuit.specs.declared.instance.Instance.{Instance}
 use Rattle.flat_circuit.specs.declared.limits.Limits.TheVariants.{None as Unlimited, Edges, Pulses}
@@ -157,8 +157,9 @@ with_another : (unchecked (beside (register (on 0) (on 1)) SetupHold (turned 0) 
     × (unchecked (beside (register (on 0) (on 1)) SetupHold (on 0) (on 0)) ≡ of_b)
     × (unchecked (beside (register (on 0) (on 1)) MinPulse (on 0) (on 1)) ≡ of_b)
     × (unchecked (beside (register high (on 1)) SetupHold high (on 1)) ≡ of_b)
+    × (unchecked (beside (register (on 0) (on 1)) RiseFall (turned 0) (on 1)) ≡ of_b)
 unfolding digits unchecked_line
-with_another = (refl, refl, refl, refl, refl)
+with_another = (refl, refl, refl, refl, refl, refl)
 
 -- a latch closes at the other edge
 abbrev latch : Pin → Pin → Instance
@@ -182,6 +183,17 @@ of_another_enable : (unchecked (beside (latch (on 0) (on 1)) SetupHold (turned 1
     × (unchecked (beside (latch (on 0) (on 1)) RiseFall (on 1) (on 1)) ≡ of_b)
 unfolding digits unchecked_line
 of_another_enable = (refl, refl, refl)
+
+-- the same with set and reset
+abbrev forced : Kind → Instance
+forced kind = instance (codes "r1") kind Unlimited (on 0 ∷ on 1 ∷ high ∷ high ∷ []) (Some 2)
+
+with_set_and_reset : (unchecked (beside (forced RegRs) SetupHold (on 0) (on 1)) ≡ [])
+    × (unchecked (beside (forced RegRs) SetupHold (turned 0) (on 1)) ≡ of_b)
+    × (unchecked (beside (forced LatchRs) SetupHold (on 0) (on 1)) ≡ of_b)
+    × (unchecked (beside (forced LatchRs) SetupHold (turned 0) (on 1)) ≡ [])
+unfolding digits unchecked_line
+with_set_and_reset = (refl, refl, refl, refl)
 
 of_a_constant : unchecked (beside (register (on 0) high) SetupHold (on 0) (on 1)) ≡ []
 of_a_constant = refl

@@ -11,6 +11,9 @@ use Rattle.drawing_tree.specs.Tree.{Range, Item, Zero, One, Named, Term, Connect
 use Rattle.macro_expander.specs.Macros.{given_to, inside_of}
 use Rattle.drawing_notes.specs.declared.spread.Finding.{Finding}
 use Rattle.drawing_notes.specs.declared.spread.Finding.TheVariants.{Spread as ASpread, Loop}
+use Rattle.drawing_tree.specs.declared.drawing.CaseStmt.{CaseStmt}
+use Rattle.drawing_notes.specs.CaseBits.{bits_of}
+use Rattle.drawing_notes.specs.Fors.{fors}
 use Rattle.drawing_notes.specs.Spreads.{spreading_at, spreads}
 
 -- ---- drawings
@@ -295,3 +298,37 @@ no_turn :
     (cons (buffer (name 7 (codes "A") None)) nil) (at 1))) ≡ loop 1 false ∷ []
 unfolding spreads spreading_at
 no_turn = refl
+
+-- ---- the FORs of a text: of macros first, and each before those in it, whether they are chosen or not
+
+abbrev for_at : ℕ → Statements → Statement
+for_at col body = For (codes "i") (number 1) (number 2) body (at col)
+
+abbrev looping : Macro
+looping = record {
+  name = codes "LOOPING";
+  params = [];
+  ins = [];
+  outs = [];
+  body = cons (for_at 3 nil) nil;
+  place = at 2;
+}
+
+in_text_order : fors (drawn (looping ∷ []) (cons (for_at 5 (cons (for_at 6 nil) nil))
+    (cons (If (number 0) (cons (for_at 7 nil) nil) (else_ (cons (for_at 8 nil) nil)) (at 1)) nil)))
+    ≡ at 3 ∷ at 5 ∷ at 6 ∷ at 7 ∷ at 8 ∷ []
+in_text_order = refl
+
+-- ---- the entries of a case
+
+abbrev case : CaseStmt
+case = record {
+  entries = record { name = record { base = codes "S"; global = true; spec = Unasserted }; bit = 2; value = 1; place = at 7 }
+      ∷ record { name = record { base = codes "T"; global = false; spec = Unasserted }; bit = 0; value = 0; place = at 8 }
+      ∷ [];
+  place = at 1;
+}
+
+entries_of_a_case : bits_of case
+    ≡ record { name = codes "/S"; bit = 2; one = true } ∷ record { name = codes "T"; bit = 0; one = false } ∷ []
+entries_of_a_case = refl

@@ -8,6 +8,7 @@ pub mod Over
 pub mod Whole
 mod ExamplesWaves
 mod ExamplesGates
+mod ExamplesNames
 pub mod Stepped
 pub mod Scanning
 pub mod Acting
