@@ -10,7 +10,7 @@ use Rattle.slack_rows.specs.declared.parameter.Parameter.{Parameter}
 use Rattle.slack_rows.specs.declared.rows.Least.{Least}
 use Rattle.slack_rows.specs.declared.rows.Rows.{Rows}
 use Rattle.slack_rows.specs.Limit.{Case}
-use Rattle.slack_rows.specs.Rows.{Row, all_limits, is_told, own_rows, row, slack_of, subjects}
+use Rattle.slack_rows.specs.Rows.{Row, all_limits, is_reported, own_rows, row, slack_of, subjects}
 use Rattle.slack_rows.specs.Slack.{is_free}
 use Rattle.slack_rows.proofs.Gathering.{filter_through}
 use Rattle.slack_rows.proofs.Once.{rows_of}
@@ -27,7 +27,7 @@ module _ (c : Circuit) (cases : List Case) where
   row_at q = row c cases q.subject q.word
 
   abbrev is_own : Row → Bool
-  is_own r = not (is_free (slack_of r)) && not (is_told c cases r)
+  is_own r = not (is_free (slack_of r)) && not (is_reported c cases r)
 
   -- one for each limit that has a row
   pub own_counted : (limits : List Parameter) → limits ≡ all_limits c →
@@ -42,7 +42,7 @@ module _ (c : Circuit) (cases : List Case) where
   -- a limit that something can break and that is not told before
   pub row_is : (rows : Rows) (place : ℕ) (q : Parameter) (found : Option Least) (told : Bool) →
       AreRows c cases rows → slice_get rows.parameters place ≡ Some q →
-      slice_get rows.least place ≡ Some found → told ≡ is_told c cases (row_at q) →
+      slice_get rows.least place ≡ Some found → told ≡ is_reported c cases (row_at q) →
       (not (is_none found) && not told) ≡ has_row c cases q
   row_is rows place q found told are at here same =
       (λ i. not (are.known.free place q found at here i) && not (same i))

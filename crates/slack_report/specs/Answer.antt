@@ -14,7 +14,7 @@ use Rattle.slack_rows.specs.declared.rows.Rows.{Rows}
 use Rattle.slack_rows.specs.Known.{AreKnown, are_sure}
 use Rattle.slack_rows.specs.Laws.{AreWaves}
 use Rattle.slack_rows.specs.Limit.{Case}
-use Rattle.slack_rows.specs.Rows.{broken_count, free_count, is_told, own_rows, row, slack_of, some_broken}
+use Rattle.slack_rows.specs.Rows.{broken_count, free_count, is_reported, own_rows, row, slack_of, some_broken}
 use Rattle.slack_rows.specs.Slack.{is_free}
 use Rattle.program_call.specs.Answer.{Reporting, Evaluated, verdict_of}
 use Rattle.program_call.specs.Program.{Meaning}
@@ -46,7 +46,7 @@ pub record AreRows (c : Circuit) (cases : List Case) (rows : Rows) : Type 0 wher
 abbrev pub has_row : Circuit → List Case → Parameter → Bool
 has_row c cases q =
     not (is_free (slack_of (row c cases q.subject q.word)))
-    && not (is_told c cases (row c cases q.subject q.word))
+    && not (is_reported c cases (row c cases q.subject q.word))
 
 -- ---- lines
 

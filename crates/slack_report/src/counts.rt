@@ -18,10 +18,10 @@ fn can_break(least: Option<Least>) -> bool
 }
 
 /// Whether a limit has a row, by whether something can break it and the one before it tells it.
-fn has_own(can_break: bool, is_told: bool) -> bool
-    ensures { result ≡ (can_break && not is_told) }
+fn has_own(can_break: bool, is_reported: bool) -> bool
+    ensures { result ≡ (can_break && not is_reported) }
 {
-    can_break && !is_told
+    can_break && !is_reported
 }
 
 /// Whether the limit at a place has a row: something can break it, and it is not told with the one
@@ -35,7 +35,7 @@ pub fn has_row(rows: &Rows, place: usize) -> bool
     let Some(least) = rows.least.get(place) else {
         return false;
     };
-    has_own(can_break(*least), rows.is_told(place))
+    has_own(can_break(*least), rows.is_reported(place))
 }
 
 /// How many limits have a row.

@@ -35,7 +35,7 @@ struct Shapes {
 fn add_entries(sheet: Sheet, entries: &mut Vec<Entry>) -> Result<(), NoMemory> {
     for place in 0..sheet.rows.parameters.len() {
         if let Some(limit) = sheet.limit(place) {
-            if !sheet.is_told(place) {
+            if !sheet.is_reported(place) {
                 entries.push(Entry {
                     row: 0,
                     rank: limit.least.told.slack.rank(),

@@ -1,12 +1,16 @@
 -- Of two sides: whether something can break each, and whether one of both is broken.
-use Rattle.std.proofs.Common.{inl, inr, ◌≡◌, ◌⊎◌, arith, ℕ, Bool, true, false, ◌&&◌, ◌||◌, cond, refl, sym, ap, ◌∙◌, Option, None}
+use Rattle.std.proofs.Common.{inl, inr, ◌≡◌, ◌⊎◌, arith, ℕ, Bool, true, false, ◌&&◌, ◌||◌, cond, refl, sym, ap, ◌∙◌, Option, Some, None}
 use Rattle.std.specs.Prelude.{IfSome, ℤ, pos, int_le, int_lt}
 use Rattle.std.proofs.lemmas.Bool.{or_left, or_right}
 use Rattle.std.proofs.lemmas.Int.{ints}
+use Rattle.critical_paths.specs.declared.arrival.Arrival.{Arrival as Arrived}
+use Rattle.critical_paths.specs.declared.direction.Corner.{Corner}
+use Rattle.critical_paths.specs.Tick.{is_further}
 use Rattle.slack_rows.specs.declared.slack.Slack.TheVariants.{Ticks as NumberOfTicks}
 use Rattle.slack_rows.specs.declared.slack.Slacks.{Slacks}
 use Rattle.slack_rows.specs.declared.slack.Told.{Told as Found}
 use Rattle.slack_rows.specs.Slack.{Slack, Free, Ticks, Way, NoNumber, Told, is_broken, is_free, is_less, lesser}
+use Rattle.slack_rows.specs.Arrived.{further_of}
 use Rattle.slack_rows.specs.Held.{AreAlike, BreakOne}
 use Rattle.slack_rows.specs.Views.{Tells, is_starred, lesser_found, slack_by, slack_told}
 use Rattle.slack_rows.proofs.Broken.{less_breaks, more_breaks}
@@ -200,3 +204,16 @@ two_break s t m n first second less =
     by : (int_le (pos 0) m ≡ false) ⊎ (int_le (pos 0) n ≡ false) → (int_lt m (pos 0) || int_lt n (pos 0)) ≡ true
     by (inl is) = or_left (int_lt m (pos 0)) (int_lt n (pos 0)) (below m is)
     by (inr is) = or_right (int_lt m (pos 0)) (int_lt n (pos 0)) (below n is)
+
+-- ---- arrivals
+
+-- what both are, the further one is
+pub further_so : (P : Arrived → Type 0) (corner : Corner) (old new : Option Arrived) →
+    IfSome old P → IfSome new P → IfSome (further_of corner old new) P
+further_so P corner old None one other = one
+further_so P corner None (Some new) one other = other
+further_so P corner (Some old) (Some new) one other = by (is_further corner new.tick old.tick)
+  where
+    by : (b : Bool) → IfSome (cond b (Some new) (Some old)) P
+    by true = other
+    by false = one

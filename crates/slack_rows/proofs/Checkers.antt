@@ -33,6 +33,7 @@ use Rattle.critical_paths.specs.declared.direction.Direction.TheVariants.{Rise, 
 use Rattle.critical_paths.specs.Event.{Events, events, is_first, is_last, moves}
 use Rattle.critical_paths.specs.Region.{IsCyclic, first_from, region_from, regions}
 use Rattle.critical_paths.proofs.Searches.{first_is}
+use Rattle.slack_rows.specs.declared.window.Extent.{Extent}
 use Rattle.slack_rows.specs.declared.parameter.Word.{Word as Limit}
 use Rattle.slack_rows.specs.declared.parameter.Word.TheVariants.{Setup, Hold}
 use Rattle.slack_rows.specs.Slack.{Free, Launches, Told, is_broken, least, told_after, told_alone, told_before}
@@ -75,7 +76,7 @@ module _ (p : ℕ) (ev : Events) where
       by (Some l) is = let found = first_is (is_last ev) p f l is in (found.from, found.below)
 
   -- those that begin in the period lie where there are ticks on either side
-  pub region_placed : (f : ℕ) (limits : ℕ × ℕ) → f < p → 1 ≤ limits.0 + limits.1 → limits.0 + limits.1 ≤ p →
+  pub region_placed : (f : ℕ) (limits : Extent) → f < p → 1 ≤ limits.before + limits.after → limits.before + limits.after ≤ p →
       IsPlaced p (about p limits (region_from p ev f))
   region_placed f limits below some short =
       let (ordered, near) = region_ends f (omega (arith, below)) in
@@ -85,7 +86,7 @@ module _ (p : ℕ) (ev : Events) where
         before_end = omega (arith, near, below, short);
       }
 
-  placed_from : (limits : ℕ × ℕ) → 1 ≤ limits.0 + limits.1 → limits.0 + limits.1 ≤ p → (n i : ℕ) → i + n ≤ p →
+  placed_from : (limits : Extent) → 1 ≤ limits.before + limits.after → limits.before + limits.after ≤ p → (n i : ℕ) → i + n ≤ p →
       AllByRecursion (IsPlaced p) (map (about p limits) (map (region_from p ev) (filter (is_first p ev) (range_with_len i n))))
   placed_from limits some short zero i within = tt
   placed_from limits some short (suc n) i within =
@@ -98,7 +99,7 @@ module _ (p : ℕ) (ev : Events) where
       by true here rest = (here, rest)
       by false here rest = rest
 
-  pub all_placed : (limits : ℕ × ℕ) → 1 ≤ limits.0 + limits.1 → limits.0 + limits.1 ≤ p →
+  pub all_placed : (limits : Extent) → 1 ≤ limits.before + limits.after → limits.before + limits.after ≤ p →
       AllByRecursion (IsPlaced p) (map (about p limits) (regions p ev))
   all_placed limits some short = placed_from limits some short p 0 (omega arith)
 

@@ -22,6 +22,7 @@ use Rattle.slack_rows.specs.declared.parameter.Subject.TheVariants.{Instance as 
 use Rattle.slack_rows.specs.Limit.{told_in}
 use Rattle.slack_rows.specs.Pulse.{may_change_again}
 use Rattle.slack_rows.specs.Watch.{span_watch, spans}
+use Rattle.slack_rows.specs.Window.{extent_of}
 use Rattle.slack_rows.specs.Way.{Guard, least_after, least_before}
 
 -- ---- from the rise at 2 or 3 to the last fall at 7
@@ -31,12 +32,12 @@ unfolding earlier back
 one_span = refl
 
 -- the input is quiet from 1 to 8
-span_before : (told_before 16 no_launches (span_watch 16 (1, 1) (fold values (wave "00RR11FF00000000")) (fold values (wave "CSSSSSSSSCCCCCCC")))).slack
+span_before : (told_before 16 no_launches (span_watch 16 (extent_of 1 1) (fold values (wave "00RR11FF00000000")) (fold values (wave "CSSSSSSSSCCCCCCC")))).slack
     ≡ Ticks (pos 1)
 unfolding earlier back
 span_before = refl
 
-span_after : (told_after 16 no_launches (span_watch 16 (1, 1) (fold values (wave "00RR11FF00000000")) (fold values (wave "CSSSSSSSSCCCCCCC")))).slack
+span_after : (told_after 16 no_launches (span_watch 16 (extent_of 1 1) (fold values (wave "00RR11FF00000000")) (fold values (wave "CSSSSSSSSCCCCCCC")))).slack
     ≡ Ticks (pos 0)
 unfolding earlier back
 span_after = refl

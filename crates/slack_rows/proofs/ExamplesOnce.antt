@@ -5,7 +5,7 @@ use Rattle.critical_paths.specs.declared.direction.Direction.TheVariants.{Rise, 
 use Rattle.critical_paths.specs.Region.{Region}
 use Rattle.slack_rows.specs.Launched.{side_by}
 use Rattle.slack_rows.specs.Limit.{is_by_arrivals}
-use Rattle.slack_rows.specs.Rows.{are_one_region, told_once}
+use Rattle.slack_rows.specs.Rows.{are_one_region, reported_once}
 use Rattle.slack_rows.specs.Slack.{Launches, Nowhere, At, Arrived, Slack, Free, Ticks, Way, NoNumber, Told, Watch, told_after, told_before}
 use Rattle.slack_rows.specs.Window.{Window, Late, Early, Either, about}
 use Rattle.slack_rows.proofs.Examples.{marked}
@@ -44,38 +44,38 @@ of_arrivals = refl
 abbrev told : Slack → ℕ → Told
 told slack pin = record { slack = slack; place = At (at_edge 4) (ticks 50 60); pin = pin; direction = Change }
 
-both_broken : told_once true (told (Ticks (negsuc 0)) 1) (told (Ticks (negsuc 9)) 1) ≡ true
+both_broken : reported_once true (told (Ticks (negsuc 0)) 1) (told (Ticks (negsuc 9)) 1) ≡ true
 both_broken = refl
 
-first_met : told_once true (told (Ticks (pos 0)) 1) (told (Ticks (negsuc 9)) 1) ≡ false
+first_met : reported_once true (told (Ticks (pos 0)) 1) (told (Ticks (negsuc 9)) 1) ≡ false
 first_met = refl
 
-second_met : told_once true (told (Ticks (negsuc 0)) 1) (told (Ticks (pos 0)) 1) ≡ false
+second_met : reported_once true (told (Ticks (negsuc 0)) 1) (told (Ticks (pos 0)) 1) ≡ false
 second_met = refl
 
-of_other_cases : told_once false (told (Ticks (negsuc 0)) 1) (told (Ticks (negsuc 9)) 1) ≡ false
+of_other_cases : reported_once false (told (Ticks (negsuc 0)) 1) (told (Ticks (negsuc 9)) 1) ≡ false
 of_other_cases = refl
 
-of_other_pins : told_once true (told (Ticks (negsuc 0)) 1) (told (Ticks (negsuc 9)) 2) ≡ false
+of_other_pins : reported_once true (told (Ticks (negsuc 0)) 1) (told (Ticks (negsuc 9)) 2) ≡ false
 of_other_pins = refl
 
 abbrev rising : Told
 rising = record { slack = Ticks (negsuc 0); place = At (at_edge 4) (ticks 50 60); pin = 1; direction = Rise }
 
-of_other_steps : told_once true rising (told (Ticks (negsuc 9)) 1) ≡ false
+of_other_steps : reported_once true rising (told (Ticks (negsuc 9)) 1) ≡ false
 of_other_steps = refl
 
 abbrev without : Slack → Told
 without slack = record { slack = slack; place = Nowhere; pin = 1; direction = Change }
 
 -- whatever the cases
-no_numbers : told_once false (without NoNumber) (without NoNumber) ≡ true
+no_numbers : reported_once false (without NoNumber) (without NoNumber) ≡ true
 no_numbers = refl
 
-one_number : told_once true (without NoNumber) (without (Way (pos 1))) ≡ false
+one_number : reported_once true (without NoNumber) (without (Way (pos 1))) ≡ false
 one_number = refl
 
-none_free : told_once true (without Free) (without NoNumber) ≡ false
+none_free : reported_once true (without Free) (without NoNumber) ≡ false
 none_free = refl
 
 -- ---- by the launch

@@ -21,6 +21,7 @@ use Rattle.slack_rows.specs.Laws.{IsBroken, SomeOf}
 use Rattle.slack_rows.proofs.Touching.{IsMet, met_touches, touched_met, watch_about}
 use Rattle.slack_rows.proofs.Parts.{PartsBreak, least_iff, parts_break, some_either, some_first, some_second}
 use Rattle.slack_rows.proofs.Checkers.{all_placed}
+use Rattle.slack_rows.specs.Window.{extent_of}
 use Rattle.slack_rows.proofs.Gates.{one_place}
 
 -- ---- lists
@@ -161,10 +162,10 @@ module _ (p : ℕ) (long : 2 ≤ p) (found wide : Folds) (found_cyclic : (t : �
   changes_cyclic d t = ap (λ v. moves d (has v)) (found_cyclic t)
 
   abbrev pub IsMetBy : Direction → Type 0
-  IsMetBy d = IsMet p (1, 0) (forbidden d) (changes d)
+  IsMetBy d = IsMet p (extent_of 1 0) (forbidden d) (changes d)
 
   abbrev watch : Direction → Watch
-  watch d = watch_about p (1, 0) (forbidden d) (changes d)
+  watch d = watch_about p (extent_of 1 0) (forbidden d) (changes d)
 
   pub step_met : (d : Direction) (t : ℕ) → t < p → moves d (has (found t)) ≡ true → moves d (has (wide t)) ≡ false → IsMetBy d
   step_met d t below here none =
@@ -194,13 +195,13 @@ module _ (p : ℕ) (long : 2 ≤ p) (found wide : Folds) (found_cyclic : (t : �
 
   met_breaks : (d : Direction) → IsMetBy d → Parts d
   met_breaks d met =
-      (parts_break p no_launches (watch d) long (changes_cyclic d) (all_placed p (forbidden d) (1, 0) (omega arith) (omega (arith, long)))).0
-      (met_touches p long (forbidden d) (changes d) (forbidden_cyclic d) (changes_cyclic d) (1, 0) (omega (arith, long)) met)
+      (parts_break p no_launches (watch d) long (changes_cyclic d) (all_placed p (forbidden d) (extent_of 1 0) (omega arith) (omega (arith, long)))).0
+      (met_touches p long (forbidden d) (changes d) (forbidden_cyclic d) (changes_cyclic d) (extent_of 1 0) (omega (arith, long)) met)
 
   breaks_met : (d : Direction) → Parts d → IsMetBy d
   breaks_met d parts =
-      touched_met p long (forbidden d) (changes d) (forbidden_cyclic d) (changes_cyclic d) (1, 0) (omega (arith, long)) (omega arith)
-      ((parts_break p no_launches (watch d) long (changes_cyclic d) (all_placed p (forbidden d) (1, 0) (omega arith) (omega (arith, long)))).1 parts)
+      touched_met p long (forbidden d) (changes d) (forbidden_cyclic d) (changes_cyclic d) (extent_of 1 0) (omega (arith, long)) (omega arith)
+      ((parts_break p no_launches (watch d) long (changes_cyclic d) (all_placed p (forbidden d) (extent_of 1 0) (omega arith) (omega (arith, long)))).1 parts)
 
   -- what is told by each direction
   abbrev never : Direction → Told

@@ -45,6 +45,7 @@ use Rattle.slack_rows.proofs.Constants.{behind_still, constant_still, still_even
 use Rattle.slack_rows.proofs.Changes.{moving, unquiet}
 use Rattle.critical_paths.proofs.Runs.{not_true}
 use Rattle.slack_rows.proofs.Marks.{IsDisturbed, disturbed_hazard, hazard_disturbed}
+use Rattle.slack_rows.specs.Window.{extent_of}
 use Rattle.slack_rows.proofs.Checkers.{all_placed, instance_fits, pins_repeat}
 
 pub one_place : (p s : ℕ) → s < p → back p (s + 1 + 0) 1 ≡ s
@@ -90,7 +91,7 @@ module _ (c : Circuit) (ws : Waves) (k : ℕ) (j : Instance) (are : AreWaves c w
   changes_cyclic i below t = ap (λ v. moves Change (has v)) (pins_repeat c ws k j are at i below t)
 
   abbrev IsMetAt : ℕ → Type 0
-  IsMetAt i = IsMet p (1, 0) lets (changes i)
+  IsMetAt i = IsMet p (extent_of 1 0) lets (changes i)
 
   -- ---- a pin that changes is on a net
 
@@ -181,8 +182,8 @@ module _ (c : Circuit) (ws : Waves) (k : ℕ) (j : Instance) (are : AreWaves c w
         below = below;
         passes = found.passes;
         holds = (parts_break p (gate_launches c ws j marked found.number) (watch_beside c ws j marked found.number) long (changes_cyclic found.number (omega (arith, below)))
-            (all_placed p lets (1, 0) (omega arith) (omega (arith, long)))).0
-            (met_touches p long lets (changes found.number) lets_cyclic (changes_cyclic found.number (omega (arith, below))) (1, 0) (omega (arith, long)) found.holds);
+            (all_placed p lets (extent_of 1 0) (omega arith) (omega (arith, long)))).0
+            (met_touches p long lets (changes found.number) lets_cyclic (changes_cyclic found.number (omega (arith, below))) (extent_of 1 0) (omega (arith, long)) found.holds);
       }
 
   breaks_met : SomeOf Parts (beside j marked) → SomeOf IsMetAt (beside j marked)
@@ -194,9 +195,9 @@ module _ (c : Circuit) (ws : Waves) (k : ℕ) (j : Instance) (are : AreWaves c w
         from = omega arith;
         below = below;
         passes = found.passes;
-        holds = touched_met p long lets (changes found.number) lets_cyclic (changes_cyclic found.number (omega (arith, below))) (1, 0) (omega (arith, long)) (omega arith)
+        holds = touched_met p long lets (changes found.number) lets_cyclic (changes_cyclic found.number (omega (arith, below))) (extent_of 1 0) (omega (arith, long)) (omega arith)
             ((parts_break p (gate_launches c ws j marked found.number) (watch_beside c ws j marked found.number) long (changes_cyclic found.number (omega (arith, below)))
-            (all_placed p lets (1, 0) (omega arith) (omega (arith, long)))).1 found.holds);
+            (all_placed p lets (extent_of 1 0) (omega arith) (omega (arith, long)))).1 found.holds);
       }
 
   abbrev told : Limit → ℕ → Told

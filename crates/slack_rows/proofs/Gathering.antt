@@ -30,6 +30,7 @@ use Rattle.slack_rows.specs.Slack.{At, Free, Launches, Told, is_broken, is_free,
 use Rattle.slack_rows.specs.Laws.{IsPlaced}
 use Rattle.slack_rows.specs.Launched.{two_by}
 use Rattle.critical_paths.specs.Tick.{IsWithin, most_tick}
+use Rattle.slack_rows.specs.declared.window.Extent.{Extent}
 use Rattle.slack_rows.specs.Views.{IsByRegion, Tells, ahead_of, counts_first, counts_last, end_at, is_two, meets_window, lesser_found, region_in, spare_at, told_by_region, window_about, window_in}
 use Rattle.slack_rows.specs.Held.{AreAlike, AreAround, AreChanges, IsBrokenByTwo, IsClose, IsCloseWindow, IsHeld, IsInPeriod, Lies, MayBeClose, MayBeHeld, TellWindow, TellWindows, first_item, held_edge, in_period, in_periods, last_item, launches_of, side_held, slacks_of_two, two_of, windows_about}
 use Rattle.slack_rows.proofs.Kept.{filter_more, first_more, last_more}
@@ -515,7 +516,7 @@ module _ (p : ℕ) (ev : Events) (launches : Launches) (two : Window → Region 
       }
 
   -- the windows about the edges so far
-  pub tell_edge : (limits : ℕ × ℕ) (edges : List Ticked) (i : ℕ) (e : Ticked) (w : Ticks) (all found next : Slacks) → i < length edges →
+  pub tell_edge : (limits : Extent) (edges : List Ticked) (i : ℕ) (e : Ticked) (w : Ticks) (all found next : Slacks) → i < length edges →
       TellWindows p ev launches two pin d (windows_about p limits (take i edges)) all → w ≡ window_about (get_or edges i e) limits →
       TellWindow p ev launches two pin d (window_in p w) found → found.level ≡ None →
       next.level ≡ lesser_found all.level found.level → next.before ≡ lesser_found all.before found.before →
@@ -526,13 +527,13 @@ module _ (p : ℕ) (ev : Events) (launches : Launches) (two : Window → Region 
       ∙ sym (map_taken (λ (x : Ticked). window_in p (window_about x limits)) edges i e below))
       (tell_more (windows_about p limits (take i edges)) (window_in p w) all found next so here none level_is before_is after_is)
 
-placed_nth : (p : ℕ) (limits : ℕ × ℕ) (edges : List Ticked) (i : ℕ) (e : Ticked) → i < length edges →
+placed_nth : (p : ℕ) (limits : Extent) (edges : List Ticked) (i : ℕ) (e : Ticked) → i < length edges →
     AllByRecursion (IsPlaced p) (windows_about p limits edges) → IsPlaced p (window_in p (window_about (get_or edges i e) limits))
 placed_nth p limits [] i e below placed = absurd (omega (arith, below))
 placed_nth p limits (x ∷ xs) zero e below placed = placed.0
 placed_nth p limits (x ∷ xs) (suc i) e below placed = placed_nth p limits xs i e (omega (arith, below)) placed.1
 
-pub placed_at : (p : ℕ) (limits : ℕ × ℕ) (edges : List Ticked) (i : ℕ) (e : Ticked) (w : Ticks) → i < length edges →
+pub placed_at : (p : ℕ) (limits : Extent) (edges : List Ticked) (i : ℕ) (e : Ticked) (w : Ticks) → i < length edges →
     AllByRecursion (IsPlaced p) (windows_about p limits edges) → w ≡ window_about (get_or edges i e) limits → IsPlaced p (window_in p w)
 placed_at p limits edges i e w below placed is =
     subst (λ (x : Ticks). IsPlaced p (window_in p x)) (sym is) (placed_nth p limits edges i e below placed)
@@ -561,7 +562,7 @@ around_whole p launched two w begin changes before all i past so number regions 
 
 -- ---- windows about edges
 
-pub window_close : (p : ℕ) (limits : ℕ × ℕ) (e : Ticked) → p ≤ 4096 → limits.0 ≤ p → limits.1 ≤ 65535 → IsInPeriod p e → IsCloseWindow p (window_about e limits)
+pub window_close : (p : ℕ) (limits : Extent) (e : Ticked) → p ≤ 4096 → limits.before ≤ p → limits.after ≤ 65535 → IsInPeriod p e → IsCloseWindow p (window_about e limits)
 window_close p limits e short some most within =
     let from = within.from in
     let ordered = within.ordered in

@@ -18,7 +18,7 @@ use Rattle.critical_paths.specs.Tick.{slot_of}
 use Rattle.critical_paths.specs.Path.{End, Source, Loop, Nothing, Path}
 use Rattle.critical_paths.specs.Walk.{PinPath, pin_path_on}
 use Rattle.critical_paths.specs.Launch.{Edge, ago, ago_of, edge_by, edge_of, edge_of_pin, offset_of, source_tick}
-use Rattle.critical_paths.specs.Known.{Grows, IsShortPath, Knows, IsShortAt, ago_in, edge_in, edge_known, path_at, path_known, pin_path_by, known_by, edge_pair}
+use Rattle.critical_paths.specs.Known.{Grows, IsShortPath, Knows, IsShortAt, ago_in, corner_in, corner_known, edge_in, edge_known, path_at, path_known, pin_path_by, known_by, edge_pair}
 use Rattle.slack_rows.specs.Views.{ahead_of}
 use Rattle.critical_paths.specs.declared.direction.Corner.TheVariants.{Late as LateCorner, Early as EarlyCorner}
 use Rattle.critical_paths.specs.declared.event.Stop.{Stop}
@@ -28,6 +28,7 @@ use Rattle.std.specs.Prelude.{IfSome}
 use Rattle.slack_rows.specs.declared.held.Held.{Held}
 use Rattle.slack_rows.specs.declared.window.Window.{Window as Ticks}
 use Rattle.slack_rows.specs.Held.{GoesOn, IsCloseWindow, IsHeld, IsNearPath, edge_at_pin, step_held, told_back}
+use Rattle.slack_rows.specs.Shown.{Explains}
 use Rattle.slack_rows.proofs.Lying.{ahead_is}
 
 -- ---- ticks and slots
@@ -212,6 +213,25 @@ pub edges_stay : (old new : List Node) (found : Option At) → Grows old new →
     option_and_then (edge_in new) found ≡ option_and_then (edge_in old) found
 edges_stay old new None grows near = refl
 edges_stay old new (Some at) grows near = edge_stays old new at grows near.0
+
+pub explains_stays : (old new : List Node) (corner : Corner) (found : Option At) → Grows old new →
+    Explains old corner found → Explains new corner found
+explains_stays old new corner None grows is = tt
+explains_stays old new corner (Some at) grows is = by (slice_get old at.node) refl
+  where
+    by : (o : Option Node) → slice_get old at.node ≡ o → corner_in new at ≡ Some corner
+    by None none =
+        let bad : ◌≡◌ {A = Option Corner} None (Some corner) = ap corner_known (sym none) ∙ is in
+        absurd (cc)
+    by (Some n) here =
+        ap corner_known (node_stays old new at.node grows (slice_get_within old at.node n here)) ∙ is
+
+-- a path that was found explains the end that was asked for
+pub explains_found : (nodes : List Node) (asked corner : Corner) (found : Option At) →
+    asked ≡ corner → IfSome found (λ at. corner_in nodes at ≡ Some asked) →
+    Explains nodes corner found
+explains_found nodes asked corner None same is = tt
+explains_found nodes asked corner (Some at) same is = is ∙ ap Some same
 
 pub found_edge : (c : Circuit) (ws : Waves) → 0 < period c.header → (corner : Corner) (pin : Pin) (d : Direction) (tick : ℤ) →
     pos 0 ≤ℤ (pos (3 * period c.header) +ℤ tick) → (nodes : List Node) (found : Option At) →

@@ -13,7 +13,7 @@ use Rattle.slack_rows.specs.declared.parameter.Word.{Word as Limit}
 use Rattle.slack_rows.specs.declared.rows.Least.{Least}
 use Rattle.slack_rows.specs.Slack.{Slack, Free, Ticks, Way, NoNumber, Told, is_broken, is_free}
 use Rattle.slack_rows.specs.Limit.{Case, least_told}
-use Rattle.slack_rows.specs.Rows.{Row, all_limits, all_rows, are_one_region, broken_count, first_with, have_no_number, is_own_row, is_same_pin, is_told, is_told_by, limit_with, limits_at, limits_of, own_rows, partner, row, slack_of, some_broken, subjects, told_once}
+use Rattle.slack_rows.specs.Rows.{Row, all_limits, all_rows, are_one_region, broken_count, first_with, have_no_number, is_own_row, is_same_pin, is_reported, is_reported_by, limit_with, limits_at, limits_of, own_rows, partner, row, slack_of, some_broken, subjects, reported_once}
 use Rattle.slack_rows.specs.Known.{AreKnown, BreaksBoth, IsKnown, breaks, in_one_case, is_sure, least_at, may_be_two, told_least}
 use Rattle.slack_rows.specs.Views.{Tells}
 use Rattle.slack_rows.proofs.Blocks.{after_it, before_it, follows}
@@ -164,18 +164,18 @@ module _ (c : Circuit) (cases : List Case) (limits : List Parameter) (least : Li
       let long = known.count in
       known.each i q (slice_index_or least i None) at (read_at least i None (omega (arith, below, long))) sure
 
-  is_told_limit : (q : Parameter) (found : Option Least) → IsKnown c cases sets q found →
+  is_known_limit : (q : Parameter) (found : Option Least) → IsKnown c cases sets q found →
       Tells (period c.header) (told_least found) (least_told c cases q.subject q.word)
-  is_told_limit q None is = is
-  is_told_limit q (Some found) is = is.told
+  is_known_limit q None is = is
+  is_known_limit q (Some found) is = is.told
 
   -- what nothing can break is not told with another one
-  free_first : (same : Bool) (a t : Told) → a.slack ≡ Free → told_once same a t ≡ false
+  free_first : (same : Bool) (a t : Told) → a.slack ≡ Free → reported_once same a t ≡ false
   free_first same a t free =
       (λ i. have_no_number (free i) t.slack || (is_broken (free i) && (is_broken t.slack && (same && (is_same_pin a t
       && are_one_region a.place t.place)))))
 
-  free_second : (same : Bool) (a t : Told) → t.slack ≡ Free → told_once same a t ≡ false
+  free_second : (same : Bool) (a t : Told) → t.slack ≡ Free → reported_once same a t ≡ false
   free_second same a t free =
       (λ i. have_no_number a.slack (free i) || (is_broken a.slack && (is_broken (free i) && (same && (is_same_pin a t
       && are_one_region a.place t.place)))))
@@ -194,10 +194,10 @@ module _ (c : Circuit) (cases : List Case) (limits : List Parameter) (least : Li
   -- by which case they are told
   one_case : (q r : Parameter) (found other : Option Least) → IsKnown c cases sets q found → IsKnown c cases sets r other →
       (a t : Told) → Tells (period c.header) (told_least found) a → Tells (period c.header) (told_least other) t →
-      told_once (in_one_case found other) a t
-      ≡ told_once (first_with c cases q.subject q.word == first_with c cases r.subject r.word) a t
+      reported_once (in_one_case found other) a t
+      ≡ reported_once (first_with c cases q.subject q.word == first_with c cases r.subject r.word) a t
   one_case q r (Some found) (Some other) is is_other a t tells tells_other =
-      (λ i. told_once (sym is.in_case i == sym is_other.in_case i) a t)
+      (λ i. reported_once (sym is.in_case i == sym is_other.in_case i) a t)
   one_case q r None other is is_other a t tells tells_other =
       free_first false a t tells ∙ sym (free_first (first_with c cases q.subject q.word == first_with c cases r.subject r.word) a t tells)
   one_case q r (Some found) None is is_other a t tells tells_other =
@@ -206,11 +206,11 @@ module _ (c : Circuit) (cases : List Case) (limits : List Parameter) (least : Li
   pub told_at : (i : ℕ) (q : Parameter) (told : Bool) → slice_get limits i ≡ Some q → is_sure c cases q.subject ≡ true →
       is_some (partner q.word) ≡ true →
       ((p : ℕ) (a t : Told) → Tells p (told_least (least_at least i 1)) a → Tells p (told_least (least_at least i 0)) t →
-      told ≡ told_once (in_one_case (least_at least i 1) (least_at least i 0)) a t) →
-      told ≡ is_told c cases (row c cases q.subject q.word)
+      told ≡ reported_once (in_one_case (least_at least i 1) (least_at least i 0)) a t) →
+      told ≡ is_reported c cases (row c cases q.subject q.word)
   told_at i q told at sure second is = by (partner q.word) refl second
     where
-      by : (o : Option Limit) → partner q.word ≡ o → is_some o ≡ true → told ≡ is_told_by c cases (row c cases q.subject q.word) o
+      by : (o : Option Limit) → partner q.word ≡ o → is_some o ≡ true → told ≡ is_reported_by c cases (row c cases q.subject q.word) o
       by None none some = absurd (cc)
       by (Some before) partner_is some =
           let stands = before_it c limits known.are_limits i q at before partner_is in
@@ -219,16 +219,16 @@ module _ (c : Circuit) (cases : List Case) (limits : List Parameter) (least : Li
           subst (IsKnown c cases sets (limit_with c q.subject before)) (sym (first_back i stands.0)) (tells_at (i - 1) (limit_with c q.subject before) stands.1 sure) in
           let known_own : IsKnown c cases sets q (least_at least i 0) =
           subst (IsKnown c cases sets q) (sym (own_back i)) (tells_at i q at sure) in
-          let first = is_told_limit (limit_with c q.subject before) (least_at least i 1) known_first in
-          let own = is_told_limit q (least_at least i 0) known_own in
+          let first = is_known_limit (limit_with c q.subject before) (least_at least i 1) known_first in
+          let own = is_known_limit q (least_at least i 0) known_own in
           is (period c.header) (least_told c cases q.subject before) (least_told c cases q.subject q.word) first own
           ∙ one_case (limit_with c q.subject before) q (least_at least i 1) (least_at least i 0) known_first known_own
           (least_told c cases q.subject before) (least_told c cases q.subject q.word) first own
 
-  pub not_second : (q : Parameter) → is_some (partner q.word) ≡ false → false ≡ is_told c cases (row c cases q.subject q.word)
+  pub not_second : (q : Parameter) → is_some (partner q.word) ≡ false → false ≡ is_reported c cases (row c cases q.subject q.word)
   not_second q none = by (partner q.word) none
     where
-      by : (o : Option Limit) → is_some o ≡ false → false ≡ is_told_by c cases (row c cases q.subject q.word) o
+      by : (o : Option Limit) → is_some o ≡ false → false ≡ is_reported_by c cases (row c cases q.subject q.word) o
       by None none = refl
       by (Some before) none = absurd (cc)
 
@@ -293,7 +293,7 @@ module _ (c : Circuit) (cases : List Case) where
   own_by NoNumber told = and_swap (not told) true
 
   abbrev has_row : Row → Bool
-  has_row r = not (is_free (slack_of r)) && not (is_told c cases r)
+  has_row r = not (is_free (slack_of r)) && not (is_reported c cases r)
 
   abbrev breaks_row : Row → Bool
   breaks_row r = is_broken (slack_of r)
@@ -306,6 +306,6 @@ module _ (c : Circuit) (cases : List Case) where
       ∙ sym (length-map (filter (λ (q : Parameter). is_own_row c cases (row_of q)) (all_limits c)) row_of)
       ∙ ap (λ (rs : List Row). length rs) (filter_through row_of (is_own_row c cases) (all_limits c))
       ∙ ap (λ (rs : List Row). length (filter (is_own_row c cases) rs)) (sym (rows_of (subjects c)))
-      ∙ sym (λ i. length (filter (λ (r : Row). own_by (slack_of r) (is_told c cases r) i) (all_rows c cases)))
+      ∙ sym (λ i. length (filter (λ (r : Row). own_by (slack_of r) (is_reported c cases r) i) (all_rows c cases)))
       ∙ ap (λ (rs : List Row). length rs) (filter_both has_row breaks_row (all_rows c cases))
       ∙ length-filter breaks_row (own_rows c cases)

@@ -35,7 +35,7 @@ use Rattle.critical_paths.specs.Arrival.{arrivals_of}
 use Rattle.slack_rows.specs.declared.held.Held.{Held}
 use Rattle.slack_rows.specs.declared.slack.Slacks.{Slacks}
 use Rattle.slack_rows.specs.declared.slack.Told.{Told as Found}
-use Rattle.slack_rows.specs.Window.{Window, about, ahead}
+use Rattle.slack_rows.specs.Window.{Window, about, ahead, extent_of}
 use Rattle.slack_rows.specs.Slack.{Free, Launches, NoNumber, Told, Watch, after_window, before_window, is_met, least, told_after, told_alone, told_before, told_by, told_of, two_in}
 use Rattle.slack_rows.specs.Watch.{opens}
 use Rattle.slack_rows.specs.Launched.{are_two, checker_launches, gate_launches, launches_at, opening, side_by, two_at_ends, two_by}
@@ -80,7 +80,7 @@ module _ (p : ℕ) (long : 2 ≤ p) (ev quiet : Events) (cyclic : IsCyclic p ev)
   after = after_window p ev launches
 
   no_windows : regions p quiet ≡ [] → watch.windows ≡ []
-  no_windows none = ap (map (about p (1, 0))) none
+  no_windows none = ap (map (about p (extent_of 1 0))) none
 
   pub parts_free : some_event p ev ≡ false → found ≡ record { level = None; before = None; after = None } →
       TellParts p launches two pin d watch found
@@ -131,7 +131,7 @@ module _ (p : ℕ) (long : 2 ≤ p) (ev quiet : Events) (cyclic : IsCyclic p ev)
   windows_met : (regions p quiet ≡ [] → ⊥) → watch.windows ≡ [] → ⊥
   windows_met some none = by (regions p quiet) refl none
     where
-      by : (rs : List Region) → regions p quiet ≡ rs → map (about p (1, 0)) rs ≡ [] → ⊥
+      by : (rs : List Region) → regions p quiet ≡ rs → map (about p (extent_of 1 0)) rs ≡ [] → ⊥
       by [] is none = some is
       by (r ∷ rs) is none = absurd (cc)
 

@@ -12,6 +12,7 @@ use Rattle.flat_circuit.specs.Instances.{InstanceFits, PinExists, TargetExists}
 use Rattle.fixpoint_engine.specs.Waves.{Waves}
 use Rattle.critical_paths.specs.declared.event.Stop.{Stop}
 use Rattle.critical_paths.specs.declared.path.Node.{Node}
+use Rattle.critical_paths.specs.Event.{other_corner}
 use Rattle.critical_paths.specs.Known.{Grows, Knows}
 use Rattle.critical_paths.specs.Views.{IsPin}
 use Rattle.critical_paths.specs.declared.direction.Corner.{Corner}
@@ -66,3 +67,9 @@ pin_at c pins k pin all at =
 pub step_pin : (held : Held) (w : Window) (corner : Corner) → (step_held held w corner).pin ≡ held.clock
 step_pin held w Late = refl
 step_pin held w Early = refl
+
+-- as early as it may come for a last change, and as late for a first one
+pub step_corner : (held : Held) (w : Window) (corner : Corner) →
+    (step_held held w corner).corner ≡ other_corner corner
+step_corner held w Late = refl
+step_corner held w Early = refl

@@ -16,6 +16,7 @@ use Rattle.critical_paths.specs.Event.{Events, events, is_first}
 use Rattle.critical_paths.specs.Region.{IsCyclic, Region, all_events, region_from, regions, some_event}
 use Rattle.critical_paths.specs.Views.{passing, ticks_of_region}
 use Rattle.critical_paths.proofs.Runs.{first_tick}
+use Rattle.slack_rows.specs.declared.window.Extent.{Extent}
 use Rattle.slack_rows.specs.declared.slack.Slacks.{Slacks}
 use Rattle.slack_rows.specs.declared.slack.Told.{Told as Found}
 use Rattle.slack_rows.specs.Window.{Window, about}
@@ -186,7 +187,7 @@ changes_are p ev slots cyclic are some =
 
 -- ---- windows about edges
 
-window_is : (p : ℕ) (limits : ℕ × ℕ) (r : Region) → limits.0 ≤ 3 * p → window_in p (window_about (ticks_of_region r) limits) ≡ about p limits r
+window_is : (p : ℕ) (limits : Extent) (r : Region) → limits.before ≤ 3 * p → window_in p (window_about (ticks_of_region r) limits) ≡ about p limits r
 window_is p limits r short =
     λ i. record {
       edge_first = at r.first i;
@@ -198,17 +199,17 @@ window_is p limits r short =
     at : (t : ℕ) → ahead_of p (pos t) ≡ 3 * p + t
     at t = let sum : pos (3 * p) +ℤ pos t ≡ pos (3 * p + t) = omega (arith, ints) in ap unsigned_abs sum
 
-    opens_at : ahead_of p (pos r.first -ℤ pos limits.0 +ℤ pos 1 -ℤ pos 1) ≡ 3 * p + r.first - limits.0
+    opens_at : ahead_of p (pos r.first -ℤ pos limits.before +ℤ pos 1 -ℤ pos 1) ≡ 3 * p + r.first - limits.before
     opens_at =
-        let sum : pos (3 * p) +ℤ (pos r.first -ℤ pos limits.0 +ℤ pos 1 -ℤ pos 1) ≡ pos (3 * p + r.first - limits.0) = omega (arith, ints, short) in
+        let sum : pos (3 * p) +ℤ (pos r.first -ℤ pos limits.before +ℤ pos 1 -ℤ pos 1) ≡ pos (3 * p + r.first - limits.before) = omega (arith, ints, short) in
         ap unsigned_abs sum
 
-    closes_at : ahead_of p (pos r.last +ℤ pos limits.1) ≡ 3 * p + r.last + limits.1
+    closes_at : ahead_of p (pos r.last +ℤ pos limits.after) ≡ 3 * p + r.last + limits.after
     closes_at =
-        let sum : pos (3 * p) +ℤ (pos r.last +ℤ pos limits.1) ≡ pos (3 * p + r.last + limits.1) = omega (arith, ints) in
+        let sum : pos (3 * p) +ℤ (pos r.last +ℤ pos limits.after) ≡ pos (3 * p + r.last + limits.after) = omega (arith, ints) in
         ap unsigned_abs sum
 
-pub windows_are : (p : ℕ) (limits : ℕ × ℕ) (rs : List Region) → limits.0 ≤ p →
+pub windows_are : (p : ℕ) (limits : Extent) (rs : List Region) → limits.before ≤ p →
     windows_about p limits (map ticks_of_region rs) ≡ map (about p limits) rs
 windows_are p limits [] short = refl
 windows_are p limits (r ∷ rs) short =

@@ -1,5 +1,6 @@
--- What launches say of what the program holds against something: of a pin against the steps of another one.
-use Rattle.std.specs.Prelude.{◌≡◌, ℕ, zero, suc, ◌+◌, ◌*◌, ◌<◌, ◌≤◌, ◌^◌, not, ◌&&◌, ◌||◌, ℤ, pos, ◌+ℤ◌, ◌-ℤ◌, ◌≤ℤ◌, int_lt, Bool, true, false, List, [], ◌∷◌, ◌++◌, filter, length, map, if◌then◌else◌, IfSome, Option, Some, None}
+-- What launches say of what the program holds against something: of a pin against the steps of
+-- another one.
+use Rattle.std.specs.Prelude.{◌≡◌, ℕ, zero, suc, ◌+◌, ◌*◌, ◌<◌, ◌≤◌, ◌^◌, not, ◌&&◌, ◌||◌, ℤ, pos, ◌+ℤ◌, ◌-ℤ◌, ◌≤ℤ◌, int_lt, Bool, true, false, List, [], ◌∷◌, ◌++◌, filter, length, map, if◌then◌else◌, Option, Some, None}
 use Rattle.std.specs.List.{All, list_any}
 use Rattle.std.specs.Option.{option_or}
 use Rattle.scald_base.specs.Clock.{back}
@@ -15,7 +16,7 @@ use Rattle.critical_paths.specs.declared.region.Region.{Region as Ticked}
 use Rattle.critical_paths.specs.declared.region.Slots.{Slots}
 use Rattle.critical_paths.specs.declared.path.Node.{Node}
 use Rattle.critical_paths.specs.declared.event.Stop.{Stop}
-use Rattle.critical_paths.specs.Tick.{IsWithin, is_further}
+use Rattle.critical_paths.specs.Tick.{IsWithin}
 use Rattle.critical_paths.specs.Event.{Events, events, moves}
 use Rattle.critical_paths.specs.Region.{IsCyclic, Region, all_events, regions}
 use Rattle.critical_paths.specs.declared.path.At.{At}
@@ -35,7 +36,8 @@ use Rattle.slack_rows.specs.declared.slack.Slack.{Slack as Number}
 use Rattle.slack_rows.specs.declared.slack.Told.{Told as Found}
 use Rattle.slack_rows.specs.declared.slack.Slacks.{Slacks}
 use Rattle.slack_rows.specs.declared.window.Window.{Window as Ticks}
-use Rattle.slack_rows.specs.Window.{Side, Either, Window, about, counts_after, counts_before, meets, met}
+use Rattle.slack_rows.specs.declared.window.Extent.{Extent}
+use Rattle.slack_rows.specs.Window.{Side, Either, Window, about, counts_after, counts_before, meets, met, extent_of}
 use Rattle.slack_rows.specs.Slack.{Launches, Slack, Told, Watch, after_window, is_broken, is_free, before_window, is_open, least, no_launches, told_after, told_before, told_of, two_in}
 use Rattle.slack_rows.specs.Limit.{beside_by_arrivals, in_windows, is_beside, told_never, told_pin}
 use Rattle.slack_rows.specs.declared.parameter.Word.TheVariants.{Gate, Before as GateBefore, After as GateAfter}
@@ -46,25 +48,25 @@ use Rattle.step_values.specs.declared.value.Value.{Value}
 use Rattle.flat_circuit.specs.declared.instance.Instance.{Instance}
 use Rattle.point_check.specs.Window.{Folds}
 use Rattle.slack_rows.specs.Launched.{are_two, side_by, two_by}
-use Rattle.slack_rows.specs.declared.parameter.Subject.{Subject}
-use Rattle.slack_rows.specs.declared.parameter.Subject.TheVariants.{Instance as OfInstance, Net as OfNet}
-use Rattle.slack_rows.specs.declared.parameter.Word.{Word as Limit}
-use Rattle.slack_rows.specs.Views.{Tells, corner_of, is_of_width, counts_first, counts_last, is_starred, is_two, meets_window, region_in, slack_told, window_about, window_in}
+use Rattle.slack_rows.specs.Views.{Tells, counts_first, counts_last, is_starred, is_two, meets_window, region_in, slack_told, window_about, window_in}
 
 -- the ideal edge that a step comes from which the pin shows at a tick
 abbrev pub edge_at_pin : Circuit → Waves → Corner → Pin → Direction → ℕ → Option Edge
 edge_at_pin c ws corner pin d tick =
     edge_of_pin c corner tick (pin_path_of c ws corner (back (period c.header) tick 0) d (Some pin))
 
--- the edge that a region is held against, and how long before it the last and the first of its changes are launched
+-- the edge that a region is held against, and how long before it the last and the first of its
+-- changes are launched
 abbrev pub held_edge : Circuit → Waves → Held → Window → Option Edge
 held_edge c ws held w = edge_at_pin c ws EarlyCorner held.clock held.opens w.edge_first
 
 abbrev pub last_ago : Circuit → Waves → Held → Window → Region → Option ℤ
-last_ago c ws held w r = ago (edge_at_pin c ws LateCorner held.pin Change r.last) (held_edge c ws held w)
+last_ago c ws held w r = ago (edge_at_pin c ws LateCorner held.pin Change r.last)
+    (held_edge c ws held w)
 
 abbrev pub first_ago : Circuit → Waves → Held → Window → Region → Option ℤ
-first_ago c ws held w r = ago (edge_at_pin c ws EarlyCorner held.pin Change r.first) (held_edge c ws held w)
+first_ago c ws held w r = ago (edge_at_pin c ws EarlyCorner held.pin Change r.first)
+    (held_edge c ws held w)
 
 abbrev pub held_side : Circuit → Waves → Held → Window → Region → Side
 held_side c ws held w r = side_by (last_ago c ws held w r) (first_ago c ws held w r)
@@ -73,14 +75,21 @@ abbrev pub held_two : Circuit → Waves → Held → Window → Region → Optio
 held_two c ws held w r =
     if are_two (last_ago c ws held w r) (first_ago c ws held w r)
     then two_by (period c.header) r (held_edge c ws held w)
-    (arrivals_of c ws LateCorner Change (Some held.pin)) (arrivals_of c ws EarlyCorner Change (Some held.pin))
+    (arrivals_of c ws LateCorner Change (Some held.pin))
+    (arrivals_of c ws EarlyCorner Change (Some held.pin))
     else None
 
 -- of a net nothing is known of launches
 abbrev pub launches_of : Circuit → Waves → Option Held → Launches
 launches_of c ws None = no_launches
 launches_of c ws (Some held) =
-    record { side = held_side c ws held; two = held_two c ws held; last_way = None; first_way = None }
+    record {
+      side = held_side c ws held;
+      two = held_two c ws held;
+      last_way = None;
+      first_way =
+          None;
+    }
 
 -- an edge as the program counts its tick, so many ticks before
 abbrev pub told_back : ℕ → Edge → ℕ × ℤ
@@ -128,7 +137,8 @@ MayBeHeld c None = Unit {0}
 MayBeHeld c (Some held) = IsHeld c held
 
 -- The paths know what they did of the case, and have lost no event.
-pub record GoesOn (c : Circuit) (ws : Waves) (old new : List Node) (met : List (Stop × ℕ)) : Type 0 where
+pub record GoesOn (c : Circuit) (ws : Waves) (old new : List Node)
+    (met : List (Stop × ℕ)) : Type 0 where
   pub knows : Knows c ws new met
   pub grows : Grows old new
 
@@ -163,7 +173,8 @@ pub record IsCloseWindow (p : ℕ) (w : Ticks) : Type 0 where
 -- ---- the regions about a window
 
 -- where a region lies about a window, and for which of its ends it counts
-pub record Lies (launched : Region → Side) (pair : Region → Bool) (w : Window) (r : Region) (side : Counted) : Type 0 where
+pub record Lies (launched : Region → Side) (pair : Region → Bool) (w : Window) (r : Region)
+    (side : Counted) : Type 0 where
   pub last : counts_last side ≡ counts_before launched w r
   pub first : counts_first side ≡ counts_after launched w r
   pub met : meets_window side ≡ meets w r
@@ -186,13 +197,15 @@ abbrev pub in_periods : ℕ → List Ticked → ℕ → List Ticked
 in_periods p regions zero = []
 in_periods p regions (suc number) = in_periods p regions number ++ map (in_period p number) regions
 
--- What the regions of a list come to about a window: the last that counts before it and the first that counts after
--- it, how many meet it, and the last that two launches may make.
-pub record AreAround (p : ℕ) (launched : Region → Side) (pair : Region → Bool) (w : Window) (regions : List Ticked) (all : Around) : Type 0 where
+-- What the regions of a list come to about a window: the last that counts before it and the first
+-- that counts after it, how many meet it, and the last that two launches may make.
+pub record AreAround (p : ℕ) (launched : Region → Side) (pair : Region → Bool) (w : Window)
+    (regions : List Ticked) (all : Around) : Type 0 where
   pub last : all.last ≡ last_item (filter (λ r. counts_before launched w (region_in p r)) regions)
   pub first : all.first ≡ first_item (filter (λ r. counts_after launched w (region_in p r)) regions)
   pub met : all.met ≡ length (filter (λ r. meets w (region_in p r)) regions)
-  pub two : all.two ≡ last_item (filter (λ r. meets w (region_in p r) && (is_open w (region_in p r) && pair (region_in p r))) regions)
+  pub two : all.two ≡ last_item (filter
+      (λ r. meets w (region_in p r) && (is_open w (region_in p r) && pair (region_in p r))) regions)
   pub close_last : MayBeClose p all.last
   pub close_first : MayBeClose p all.first
   pub close_two : MayBeClose p all.two
@@ -205,12 +218,13 @@ pub record AreChanges (p : ℕ) (ev : Events) (changes : List Ticked) : Type 0 w
   pub some : all_events p ev ≡ false
   pub are : changes ≡ map ticks_of_region (regions p ev)
 
--- What is told of two sides, as far as arrivals have no say in it: of each whether something can break it, and whether
--- one of both is broken.
+-- What is told of two sides, as far as arrivals have no say in it: of each whether something can
+-- break it, and whether one of both is broken.
 pub record AreAlike (found : Slacks) (one other : Slack) : Type 0 where
   pub before : is_free (slack_told found.before) ≡ is_free one
   pub after : is_free (slack_told found.after) ≡ is_free other
-  pub broken : (is_broken (slack_told found.before) || is_broken (slack_told found.after)) ≡ (is_broken one || is_broken other)
+  pub broken : (is_broken (slack_told found.before) || is_broken (slack_told found.after))
+      ≡ (is_broken one || is_broken other)
 
 -- Something can break each side, and one of both is broken.
 pub record BreakOne (one other : Slack) : Type 0 where
@@ -221,10 +235,12 @@ pub record BreakOne (one other : Slack) : Type 0 where
 abbrev pub IsBrokenByTwo : Slacks → Type 0
 IsBrokenByTwo found = BreakOne (slack_told found.before) (slack_told found.after)
 
--- Where data may change in every slot: nothing if there is no window, or else no number of the waves on either side.
+-- Where data may change in every slot: nothing if there is no window, or else no number of the
+-- waves on either side.
 abbrev pub AreOfWays : Bool → Slacks → Type 0
 AreOfWays false found = (found.before ≡ None) × (found.after ≡ None)
-AreOfWays true found = (is_starred (slack_told found.before) ≡ true) × (is_starred (slack_told found.after) ≡ true)
+AreOfWays true found = (is_starred (slack_told found.before) ≡ true)
+    × (is_starred (slack_told found.after) ≡ true)
 
 -- The slacks of two sides, exactly but for an exception.
 pub record TellSides (p : ℕ) (except : Bool) (one other : Told) (found : Slacks) : Type 0 where
@@ -233,27 +249,33 @@ pub record TellSides (p : ℕ) (except : Bool) (one other : Told) (found : Slack
   pub alike : AreAlike found one.slack other.slack
 
 -- The slacks about a window, exactly but where two launches may make the only region that meets it.
-pub record TellWindow (p : ℕ) (ev : Events) (launches : Launches) (two : Window → Region → Bool) (pin : ℕ) (direction : Direction)
+pub record TellWindow (p : ℕ) (ev : Events) (launches : Launches) (two : Window → Region → Bool)
+    (pin : ℕ) (direction : Direction)
     (w : Window) (found : Slacks) : Type 0 where
   pub before : two_in p ev two w ≡ false →
       Tells p found.before (told_of pin direction (before_window p ev launches w))
   pub after : two_in p ev two w ≡ false →
       Tells p found.after (told_of pin direction (after_window p ev launches w))
-  pub alike : AreAlike found (before_window p ev launches w).slack (after_window p ev launches w).slack
+  pub alike : AreAlike found (before_window p ev launches w).slack
+      (after_window p ev launches w).slack
 
--- The least slacks about windows, exactly but where two launches may make the only region that meets one.
-pub record TellWindows (p : ℕ) (ev : Events) (launches : Launches) (two : Window → Region → Bool) (pin : ℕ) (direction : Direction)
+-- The least slacks about windows, exactly but where two launches may make the only region that
+-- meets one.
+pub record TellWindows (p : ℕ) (ev : Events) (launches : Launches) (two : Window → Region → Bool)
+    (pin : ℕ) (direction : Direction)
     (windows : List Window) (found : Slacks) : Type 0 where
   pub level : found.level ≡ None
   pub before : list_any (two_in p ev two) windows ≡ false →
-      Tells p found.before (told_of pin direction (least (map (before_window p ev launches) windows)))
+      Tells p found.before (told_of pin direction
+      (least (map (before_window p ev launches) windows)))
   pub after : list_any (two_in p ev two) windows ≡ false →
       Tells p found.after (told_of pin direction (least (map (after_window p ev launches) windows)))
-  pub alike : AreAlike found (least (map (before_window p ev launches) windows)).slack (least (map (after_window p ev launches) windows)).slack
+  pub alike : AreAlike found (least (map (before_window p ev launches) windows)).slack
+      (least (map (after_window p ev launches) windows)).slack
 
 -- the windows about edges
-abbrev pub windows_about : ℕ → ℕ × ℕ → List Ticked → List Window
-windows_about p limits edges = map (λ e. window_in p (window_about e limits)) edges
+abbrev pub windows_about : ℕ → Extent → List Ticked → List Window
+windows_about p extent edges = map (λ e. window_in p (window_about e extent)) edges
 
 abbrev pub place_in : Option Held → ℕ
 place_in None = 0
@@ -269,57 +291,77 @@ pub record IsSlots (p : ℕ) (slots : Slots) : Type 0 where
   pub few : length slots.regions ≤ 4096
 
 -- the slacks of a watch, but for an exception
-pub record TellWatch (p : ℕ) (launches : Launches) (except : Bool) (pin : ℕ) (direction : Direction) (watch : Watch) (found : Slacks) : Type 0 where
+pub record TellWatch (p : ℕ) (launches : Launches) (except : Bool) (pin : ℕ) (direction : Direction)
+    (watch : Watch) (found : Slacks) : Type 0 where
   pub level : found.level ≡ None
-  pub before : except ≡ false → Tells p found.before (told_of pin direction (told_before p launches watch))
-  pub after : except ≡ false → Tells p found.after (told_of pin direction (told_after p launches watch))
-  pub alike : AreAlike found (told_before p launches watch).slack (told_after p launches watch).slack
+  pub before : except ≡ false → Tells p found.before
+      (told_of pin direction (told_before p launches watch))
+  pub after : except ≡ false → Tells p found.after
+      (told_of pin direction (told_after p launches watch))
+  pub alike : AreAlike found (told_before p launches watch).slack
+      (told_after p launches watch).slack
 
--- The same of a change that is never to come, and of those in windows: exactly but where two launches may make the only
--- region that meets one.
-pub record TellParts (p : ℕ) (launches : Launches) (two : Window → Region → Bool) (pin : ℕ) (direction : Direction) (watch : Watch)
+-- The same of a change that is never to come, and of those in windows: exactly but where two
+-- launches may make the only region that meets one.
+pub record TellParts (p : ℕ) (launches : Launches) (two : Window → Region → Bool) (pin : ℕ)
+    (direction : Direction) (watch : Watch)
     (found : Slacks) : Type 0 where
   pub level : Tells p found.level (told_of pin direction (told_never p watch))
   pub before : list_any (two_in p watch.changes two) watch.windows ≡ false →
       Tells p found.before (told_of pin direction (told_before p launches (in_windows watch)))
   pub after : list_any (two_in p watch.changes two) watch.windows ≡ false →
       Tells p found.after (told_of pin direction (told_after p launches (in_windows watch)))
-  pub alike : AreAlike found (told_before p launches (in_windows watch)).slack (told_after p launches (in_windows watch)).slack
+  pub alike : AreAlike found (told_before p launches (in_windows watch)).slack
+      (told_after p launches (in_windows watch)).slack
 
 -- changes that are not to come at these ticks, nor in the tick beside them
 abbrev pub watch_at : ℕ → Events → Events → Watch
 watch_at p changes still =
-    record { changes = changes; windows = map (about p (1, 0)) (regions p still); never = all_events p still }
+    record {
+      changes = changes;
+      windows = map (about p (extent_of 1 0)) (regions p still);
+      never = all_events p still;
+    }
 
 -- the ticks at which no step of the direction may come
 abbrev pub lacking : Direction → Folds → Events
 lacking d folds t = not (moves d (has (folds t)))
 
 -- the slacks of a pin, where it is beside the marked one of an instance
-pub record TellBeside (c : Circuit) (ws : Waves) (j : Instance) (marked i : ℕ) (found : Slacks) : Type 0 where
-  pub level : is_beside j marked i ≡ true → Tells (period c.header) found.level (told_of i Change (told_pin c ws j Gate marked i))
+pub record TellBeside (c : Circuit) (ws : Waves) (j : Instance) (marked i : ℕ)
+    (found : Slacks) : Type 0 where
+  pub level : is_beside j marked i ≡ true →
+      Tells (period c.header) found.level (told_of i Change (told_pin c ws j Gate marked i))
   pub before : is_beside j marked i ≡ true → beside_by_arrivals c ws j marked i ≡ false →
       Tells (period c.header) found.before (told_of i Change (told_pin c ws j GateBefore marked i))
   pub after : is_beside j marked i ≡ true → beside_by_arrivals c ws j marked i ≡ false →
       Tells (period c.header) found.after (told_of i Change (told_pin c ws j GateAfter marked i))
-  pub alike : is_beside j marked i ≡ true → AreAlike found (told_pin c ws j GateBefore marked i).slack (told_pin c ws j GateAfter marked i).slack
-  pub none : is_beside j marked i ≡ false → (found.level ≡ None) × (found.before ≡ None) × (found.after ≡ None)
+  pub alike : is_beside j marked i ≡ true →
+      AreAlike found (told_pin c ws j GateBefore marked i).slack
+      (told_pin c ws j GateAfter marked i).slack
+  pub none : is_beside j marked i ≡ false →
+      (found.level ≡ None) × (found.before ≡ None) × (found.after ≡ None)
 
 -- What is told of a net's steps of a direction, by what it may do and what its assertion permits.
 abbrev pub steps_watch : ℕ → Folds → Folds → Direction → Watch
 steps_watch p folds wide d = watch_at p (events d folds) (lacking d wide)
 
-pub record TellDirections (p : ℕ) (folds wide : Folds) (directions : List Direction) (found : Slacks) : Type 0 where
-  pub level : Tells p found.level (least (map (λ d. told_of 0 d (told_never p (steps_watch p folds wide d))) directions))
+pub record TellDirections (p : ℕ) (folds wide : Folds) (directions : List Direction)
+    (found : Slacks) : Type 0 where
+  pub level : Tells p found.level (least
+      (map (λ d. told_of 0 d (told_never p (steps_watch p folds wide d))) directions))
   pub before : Tells p found.before
-      (least (map (λ d. told_of 0 d (told_before p no_launches (in_windows (steps_watch p folds wide d)))) directions))
+      (least (map (λ d. told_of 0 d
+      (told_before p no_launches (in_windows (steps_watch p folds wide d)))) directions))
   pub after : Tells p found.after
-      (least (map (λ d. told_of 0 d (told_after p no_launches (in_windows (steps_watch p folds wide d)))) directions))
+      (least (map (λ d. told_of 0 d
+      (told_after p no_launches (in_windows (steps_watch p folds wide d)))) directions))
 
 -- a step from one bit to the other that the other value lacks
 abbrev pub is_step_outside : Value → Value → Bool
 is_step_outside v wide =
-    (has v false true && not (has wide false true)) || (has v true false && not (has wide true false))
+    (has v false true && not (has wide false true))
+    || (has v true false && not (has wide true false))
 
 -- 1 is the level that the other value lacks
 abbrev pub is_high_outside : Value → Value → Bool
@@ -341,8 +383,8 @@ slacks_of_two (Some two) regions = two
 
 -- ---- what the program holds against something
 
--- The step that data is held against: for its last change the one with which a window begins, as early as it may come,
--- and for its first change the one with which it ends, as late.
+-- The step that data is held against: for its last change the one with which a window begins, as
+-- early as it may come, and for its first change the one with which it ends, as late.
 abbrev pub step_held : Held → Ticks → Corner → PinEvent
 step_held held w LateCorner =
     record { pin = held.clock; direction = held.opens; tick = w.first; corner = EarlyCorner }
@@ -351,42 +393,11 @@ step_held held w EarlyCorner =
 
 abbrev pub told_by_arrival : Held → Number → Ticks → Arrived → Found
 told_by_arrival held slack w found =
-    record { slack = slack; window = w; pin = held.place; direction = Change; tick = found.tick; by = ByWay found.node }
-
--- ---- two arrivals
-
--- of two arrivals the one that is further, and of equal ones the first
-abbrev pub further_of : Corner → Option Arrived → Arrived → Option Arrived
-further_of corner None new = Some new
-further_of corner (Some old) new = if is_further corner new.tick old.tick then Some new else Some old
-
-abbrev pub both_of : Option Held → Option Ticked → Option (Held × Ticked)
-both_of None region = None
-both_of (Some held) None = None
-both_of (Some held) (Some region) = Some (held, region)
-
--- ---- at which ticks the paths of a slack show
-
--- the tick of the edge that data is held against
-abbrev pub edge_tick : Corner → Ticks → ℤ
-edge_tick LateCorner w = w.first
-edge_tick EarlyCorner w = w.last
-
-abbrev pub ShowsAt : ℤ → Option At → Type 0
-ShowsAt tick None = Unit {0}
-ShowsAt tick (Some at) = at.tick +ℤ pos at.wire ≡ tick
-
--- Of an instance: the data at its change and the clock at its edge, or the begin and the end of a pulse. A net has no
--- clock.
-abbrev pub data_tick : Bool → Found → ℤ
-data_tick true found = found.window.first
-data_tick false found = found.tick
-
-abbrev pub clock_tick : Bool → Corner → Found → ℤ
-clock_tick true corner found = found.window.last
-clock_tick false corner found = edge_tick corner found.window
-
-abbrev pub ShowAt : Subject → Limit → Found → Option At → Option At → Type 0
-ShowAt (OfInstance number) word found changes clock =
-    (ShowsAt (data_tick (is_of_width word) found) changes) × (ShowsAt (clock_tick (is_of_width word) (corner_of word) found) clock)
-ShowAt (OfNet number) word found changes clock = (IfSome changes (λ at. at.tick ≡ found.tick)) × (clock ≡ None)
+    record {
+      slack = slack;
+      window = w;
+      pin = held.place;
+      direction = Change;
+      tick = found.tick;
+      by = ByWay found.node;
+    }

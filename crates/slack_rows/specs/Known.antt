@@ -70,21 +70,26 @@ may_be_two Assert = false
 may_be_two StableFrom = false
 may_be_two StableTo = false
 
--- of a limit and the one on the other side of the same edges one is broken exactly where one is told to be
+-- of a limit and the one on the other side of the same edges one is broken exactly where one is
+-- told to be
 abbrev pub BreakAlike : (Limit → Told) → Slacks → Limit → Option Limit → Type 0
 BreakAlike told slacks word None = Unit {0}
 BreakAlike told slacks word (Some before) =
-    (is_broken (slack_told (slack_for slacks before)) || is_broken (slack_told (slack_for slacks word)))
+    (is_broken (slack_told (slack_for slacks before))
+    || is_broken (slack_told (slack_for slacks word)))
     ≡ (is_broken (told before).slack || is_broken (told word).slack)
 
--- Whatever arrivals say: whether something can break a limit, and whether it is broken, of two sides together.
+-- Whatever arrivals say: whether something can break a limit, and whether it is broken, of two
+-- sides together.
 pub record IsAlike (told : Limit → Told) (slacks : Slacks) (word : Limit) : Type 0 where
   pub free : is_free (slack_told (slack_for slacks word)) ≡ is_free (told word).slack
-  pub alone : may_be_two word ≡ false → is_broken (slack_told (slack_for slacks word)) ≡ is_broken (told word).slack
+  pub alone : may_be_two word ≡ false →
+      is_broken (slack_told (slack_for slacks word)) ≡ is_broken (told word).slack
   pub both : BreakAlike told slacks word (partner word)
 
 -- the slacks of these limits, all of them exact but for an exception
-pub record TellLimits (p : ℕ) (except : Bool) (told : Limit → Told) (limits : List Limit) (slacks : Slacks) : Type 0 where
+pub record TellLimits (p : ℕ) (except : Bool) (told : Limit → Told) (limits : List Limit)
+    (slacks : Slacks) : Type 0 where
   pub exact : except ≡ false → All (λ word. Tells p (slack_for slacks word) (told word)) limits
   pub alike : All (IsAlike told slacks) limits
 
@@ -92,7 +97,8 @@ pub record TellLimits (p : ℕ) (except : Bool) (told : Limit → Told) (limits 
 abbrev pub SlacksKnown : Circuit → Waves → Option Subject → Slacks → Type 0
 SlacksKnown c ws None slacks = Unit {0}
 SlacksKnown c ws (Some subject) slacks =
-    TellLimits (period c.header) (by_arrivals c ws subject) (told_in c ws subject) (limits_of c subject) slacks
+    TellLimits (period c.header) (by_arrivals c ws subject) (told_in c ws subject)
+    (limits_of c subject) slacks
 
 -- what is told of a limit, and whether two are of one case
 abbrev pub told_least : Option Least → Option Found
@@ -134,16 +140,18 @@ abbrev pub least_at : List (Option Least) → ℕ → ℕ → Option Least
 least_at least place count =
     if nat_le count place then slice_index_or least (place - count) None else None
 
--- Of a limit and the one on the other side of the same edges, which stands before it, one is broken exactly where one is
--- said to be.
-abbrev pub BreaksBoth : Circuit → List Case → List (Option Least) → ℕ → Parameter → Option Limit → Type 0
+-- Of a limit and the one on the other side of the same edges, which stands before it, one is broken
+-- exactly where one is said to be.
+abbrev pub BreaksBoth : Circuit → List Case → List (Option Least) → ℕ → Parameter → Option Limit →
+    Type 0
 BreaksBoth c cases least place q None = Unit {0}
 BreaksBoth c cases least place q (Some before) =
     (breaks (least_at least place 1) || breaks (least_at least place 0))
-    ≡ (is_broken (least_told c cases q.subject before).slack || is_broken (least_told c cases q.subject q.word).slack)
+    ≡ (is_broken (least_told c cases q.subject before).slack
+    || is_broken (least_told c cases q.subject q.word).slack)
 
--- Of each limit of the circuit: all where arrivals do not decide, and always whether something can break it and whether
--- it is broken, of two sides together.
+-- Of each limit of the circuit: all where arrivals do not decide, and always whether something can
+-- break it and whether it is broken, of two sides together.
 pub record AreKnown (c : Circuit) (cases : List Case) (limits : List Parameter)
     (least : List (Option Least)) (numbers : List ℕ) (sets : List (ℕ × ℕ)) : Type 0 where
   pub are_limits : limits ≡ all_limits c
@@ -153,13 +161,16 @@ pub record AreKnown (c : Circuit) (cases : List Case) (limits : List Parameter)
   pub numbered : (i : ℕ) (found : Option Least) → slice_get least i ≡ Some found →
       IsNumbered sets found
   pub each : (i : ℕ) (q : Parameter) (found : Option Least) → slice_get limits i ≡ Some q →
-      slice_get least i ≡ Some found → is_sure c cases q.subject ≡ true → IsKnown c cases sets q found
+      slice_get least i ≡ Some found → is_sure c cases q.subject ≡ true →
+      IsKnown c cases sets q found
   pub free : (i : ℕ) (q : Parameter) (found : Option Least) → slice_get limits i ≡ Some q →
-      slice_get least i ≡ Some found → is_none found ≡ is_free (least_told c cases q.subject q.word).slack
+      slice_get least i ≡ Some found →
+      is_none found ≡ is_free (least_told c cases q.subject q.word).slack
   pub alone : (i : ℕ) (q : Parameter) (found : Option Least) → slice_get limits i ≡ Some q →
       slice_get least i ≡ Some found → may_be_two q.word ≡ false →
       breaks found ≡ is_broken (least_told c cases q.subject q.word).slack
-  pub both : (i : ℕ) (q : Parameter) → slice_get limits i ≡ Some q → BreaksBoth c cases least i q (partner q.word)
+  pub both : (i : ℕ) (q : Parameter) → slice_get limits i ≡ Some q →
+      BreaksBoth c cases least i q (partner q.word)
 
 -- ---- one case more
 

@@ -21,7 +21,8 @@ use Rattle.slack_rows.specs.Way.{last_way, first_way}
 
 -- the edge that a step comes from which a pin shows at a tick
 abbrev pub edge_at : Circuit → Waves → Corner → Instance → ℕ → Direction → ℕ → Option Edge
-edge_at c ws corner j i d tick = edge_of_pin c corner tick (pin_path c ws corner j i d (back (period c.header) tick 0))
+edge_at c ws corner j i d tick =
+    edge_of_pin c corner tick (pin_path c ws corner j i d (back (period c.header) tick 0))
 
 -- ---- one side
 
@@ -45,7 +46,8 @@ are_two None first = false
 are_two (Some last) None = false
 are_two (Some last) (Some first) = int_le last (pos 0) && int_lt (pos 0) first
 
--- What is launched before an edge, or not before it, arrives at a tick, whole periods after the arrival that is known.
+-- What is launched before an edge, or not before it, arrives at a tick, whole periods after the
+-- arrival that is known.
 abbrev pub same_bit : Bool → Bool → Bool
 same_bit a b = if a then b else not b
 
@@ -55,39 +57,50 @@ arrives p before clock tick a =
     && same_bit before (int_lt (a.edge +ℤ (pos tick -ℤ pos a.tick)) clock.tick))
 
 abbrev pub last_launched : ℕ → Edge → Region → List Arrival → Option ℕ
-last_launched p clock r found = last_up_to (λ t. list_any (arrives p true clock t) found) (r.last + 1 - r.first) r.last
+last_launched p clock r found =
+    last_up_to (λ t. list_any (arrives p true clock t) found) (r.last + 1 - r.first) r.last
 
 abbrev pub first_launched : ℕ → Edge → Region → List Arrival → Option ℕ
-first_launched p clock r found = first_from (λ t. list_any (arrives p false clock t) found) (r.last + 1 - r.first) r.first
+first_launched p clock r found =
+    first_from (λ t. list_any (arrives p false clock t) found) (r.last + 1 - r.first) r.first
 
 abbrev pub pair_of : Option ℕ → Option ℕ → Option (ℕ × ℕ)
 pair_of None first = None
 pair_of (Some last) None = None
 pair_of (Some last) (Some first) = Some (last, first)
 
-abbrev pub two_by : ℕ → Region → Option Edge → Option (List Arrival) → Option (List Arrival) → Option (ℕ × ℕ)
+abbrev pub two_by : ℕ → Region → Option Edge → Option (List Arrival) → Option (List Arrival) →
+    Option (ℕ × ℕ)
 two_by p r None late early = None
 two_by p r (Some clock) None early = None
 two_by p r (Some clock) (Some late) None = None
-two_by p r (Some clock) (Some late) (Some early) = pair_of (last_launched p clock r late) (first_launched p clock r early)
+two_by p r (Some clock) (Some late) (Some early) =
+    pair_of (last_launched p clock r late) (first_launched p clock r early)
 
 -- ---- of a pin, against the first edge of the window
 
 abbrev pub side_at : Circuit → Waves → Instance → ℕ → ℕ → Direction → Window → Region → Side
 side_at c ws j clock i edge w r =
-    side_by (ago (edge_at c ws LateCorner j i Change r.last) (edge_at c ws EarlyCorner j clock edge w.edge_first))
-    (ago (edge_at c ws EarlyCorner j i Change r.first) (edge_at c ws EarlyCorner j clock edge w.edge_first))
+    side_by (ago (edge_at c ws LateCorner j i Change r.last)
+    (edge_at c ws EarlyCorner j clock edge w.edge_first))
+    (ago (edge_at c ws EarlyCorner j i Change r.first)
+    (edge_at c ws EarlyCorner j clock edge w.edge_first))
 
 -- two launches may make a region, by the ends of it
 abbrev pub two_at_ends : Circuit → Waves → Instance → ℕ → ℕ → Direction → Window → Region → Bool
 two_at_ends c ws j clock i edge w r =
-    are_two (ago (edge_at c ws LateCorner j i Change r.last) (edge_at c ws EarlyCorner j clock edge w.edge_first))
-    (ago (edge_at c ws EarlyCorner j i Change r.first) (edge_at c ws EarlyCorner j clock edge w.edge_first))
+    are_two (ago (edge_at c ws LateCorner j i Change r.last)
+    (edge_at c ws EarlyCorner j clock edge w.edge_first))
+    (ago (edge_at c ws EarlyCorner j i Change r.first)
+    (edge_at c ws EarlyCorner j clock edge w.edge_first))
 
-abbrev pub two_at : Circuit → Waves → Instance → ℕ → ℕ → Direction → Window → Region → Option (ℕ × ℕ)
+abbrev pub two_at : Circuit → Waves → Instance → ℕ → ℕ → Direction → Window → Region →
+    Option (ℕ × ℕ)
 two_at c ws j clock i edge w r =
-    if are_two (ago (edge_at c ws LateCorner j i Change r.last) (edge_at c ws EarlyCorner j clock edge w.edge_first))
-    (ago (edge_at c ws EarlyCorner j i Change r.first) (edge_at c ws EarlyCorner j clock edge w.edge_first))
+    if are_two (ago (edge_at c ws LateCorner j i Change r.last)
+    (edge_at c ws EarlyCorner j clock edge w.edge_first))
+    (ago (edge_at c ws EarlyCorner j i Change r.first)
+    (edge_at c ws EarlyCorner j clock edge w.edge_first))
     then two_by (period c.header) r (edge_at c ws EarlyCorner j clock edge w.edge_first)
     (pin_arrivals c ws LateCorner j i Change) (pin_arrivals c ws EarlyCorner j i Change)
     else None

@@ -43,7 +43,8 @@ SomeOf holds (x ∷ xs) = holds x ⊎ SomeOf holds xs
 
 -- data may come where it is not to
 abbrev pub IsTouchedWatch : Watch → Type 0
-IsTouchedWatch watch = ((watch.never ≡ true) × SomeTick watch.changes) ⊎ SomeOf (IsTouched watch.changes) watch.windows
+IsTouchedWatch watch = ((watch.never ≡ true) × SomeTick watch.changes)
+    ⊎ SomeOf (IsTouched watch.changes) watch.windows
 
 abbrev pub IsBroken : Told → Type 0
 IsBroken told = is_broken told.slack ≡ true
@@ -51,8 +52,10 @@ IsBroken told = is_broken told.slack ≡ true
 -- One of the two slacks is broken exactly where it does, whatever is known of launches.
 abbrev pub BrokenWhereTouched : Type 0
 BrokenWhereTouched =
-    (p : ℕ) (launches : Launches) (watch : Watch) → 2 ≤ p → IsCyclic p watch.changes → AllByRecursion (IsPlaced p) watch.windows →
-    (IsBroken (told_before p launches watch) ⊎ IsBroken (told_after p launches watch)) ↔ IsTouchedWatch watch
+    (p : ℕ) (launches : Launches) (watch : Watch) → 2 ≤ p → IsCyclic p watch.changes →
+    AllByRecursion (IsPlaced p) watch.windows →
+    (IsBroken (told_before p launches watch) ⊎ IsBroken (told_after p launches watch))
+    ↔ IsTouchedWatch watch
 
 -- ---- faults
 
@@ -69,11 +72,14 @@ pub record AreWaves (c : Circuit) (ws : Waves) : Type 0 where
 -- A checker at edges has a fault exactly where its setup or its hold slack is broken.
 abbrev pub EdgesBreakWithFaults : Type 0
 EdgesBreakWithFaults =
-    (c : Circuit) (ws : Waves) (k : ℕ) (j : Instance) → AreWaves c ws → slice_get c.instances k ≡ Some j →
+    (c : Circuit) (ws : Waves) (k : ℕ) (j : Instance) → AreWaves c ws →
+    slice_get c.instances k ≡ Some j →
     checks_points j.kind ≡ true →
-    (is_some (instance_fault c ws k) ≡ true) ↔ (Breaks c ws (OfInstance k) Setup ⊎ Breaks c ws (OfInstance k) Hold)
+    (is_some (instance_fault c ws k) ≡ true)
+    ↔ (Breaks c ws (OfInstance k) Setup ⊎ Breaks c ws (OfInstance k) Hold)
 
--- A checker of widths has a fault of high pulses exactly where the slack of their width is broken, and so with low ones.
+-- A checker of widths has a fault of high pulses exactly where the slack of their width is broken,
+-- and so with low ones.
 abbrev pub limit_of_level : Bool → Limit
 limit_of_level true = High
 limit_of_level false = Low
@@ -84,21 +90,26 @@ width_of_level j false = low_of j.limits
 
 abbrev pub WidthsBreakWithFaults : Type 0
 WidthsBreakWithFaults =
-    (c : Circuit) (ws : Waves) (k : ℕ) (j : Instance) (level : Bool) → AreWaves c ws → slice_get c.instances k ≡ Some j →
+    (c : Circuit) (ws : Waves) (k : ℕ) (j : Instance) (level : Bool) → AreWaves c ws →
+    slice_get c.instances k ≡ Some j →
     checks_pulses j.kind ≡ true →
-    (is_some (width_fault c ws k j level (width_of_level j level)) ≡ true) ↔ Breaks c ws (OfInstance k) (limit_of_level level)
+    (is_some (width_fault c ws k j level (width_of_level j level)) ≡ true)
+    ↔ Breaks c ws (OfInstance k) (limit_of_level level)
 
 -- A marked gate has a hazard exactly where one of its slacks is broken.
 abbrev pub MarksBreakWithFaults : Type 0
 MarksBreakWithFaults =
-    (c : Circuit) (ws : Waves) (k : ℕ) (j : Instance) → AreWaves c ws → slice_get c.instances k ≡ Some j →
+    (c : Circuit) (ws : Waves) (k : ℕ) (j : Instance) → AreWaves c ws →
+    slice_get c.instances k ≡ Some j →
     may_be_marked j.kind ≡ true →
     (is_some (instance_fault c ws k) ≡ true) ↔
-    (Breaks c ws (OfInstance k) Gate ⊎ (Breaks c ws (OfInstance k) GateBefore ⊎ Breaks c ws (OfInstance k) GateAfter))
+    (Breaks c ws (OfInstance k) Gate
+    ⊎ (Breaks c ws (OfInstance k) GateBefore ⊎ Breaks c ws (OfInstance k) GateAfter))
 
 -- A driven net breaks its assertion exactly where one of its slacks is broken.
 abbrev pub NetsBreakWithFaults : Type 0
 NetsBreakWithFaults =
     (c : Circuit) (ws : Waves) (i : ℕ) → AreWaves c ws → i < length c.nets →
     (is_some (net_fault c ws i) ≡ true) ↔
-    (Breaks c ws (OfNet i) Assert ⊎ (Breaks c ws (OfNet i) StableFrom ⊎ Breaks c ws (OfNet i) StableTo))
+    (Breaks c ws (OfNet i) Assert ⊎
+    (Breaks c ws (OfNet i) StableFrom ⊎ Breaks c ws (OfNet i) StableTo))

@@ -9,4 +9,6 @@ pub mod Rows
 pub mod Views
 pub mod Known
 pub mod Held
+pub mod Arrived
+pub mod Shown
 pub mod Laws

@@ -1,4 +1,5 @@
--- The slack of a limit: the least over the pins and directions that it is about, and over all cases.
+-- The slack of a limit: the least over the pins and directions that it is about, and over all
+-- cases.
 use Rattle.std.specs.Prelude.{ℕ, ◌+◌, ◌-◌, ◌==◌, Bool, true, false, not, ◌&&◌, ◌||◌, List, [], ◌∷◌, ◌++◌, length, map, filter, slice_get, pos, if◌then◌else◌, Option, Some, None}
 use Rattle.std.specs.List.{list_any, range_with_len}
 use Rattle.scald_base.specs.Time.{period}
@@ -31,7 +32,8 @@ use Rattle.slack_rows.specs.declared.parameter.Word.{Word as Limit}
 use Rattle.slack_rows.specs.declared.parameter.Word.TheVariants.{Setup, Hold, High, Low, Gate, Before as GateBefore, After as GateAfter, Assert, From as StableFrom, To as StableTo}
 use Rattle.slack_rows.specs.declared.parameter.Subject.{Subject}
 use Rattle.slack_rows.specs.declared.parameter.Subject.TheVariants.{Instance as OfInstance, Net as OfNet}
-use Rattle.slack_rows.specs.Window.{Window, ahead}
+use Rattle.slack_rows.specs.declared.window.Extent.{Extent}
+use Rattle.slack_rows.specs.Window.{Window, ahead, extent_of}
 use Rattle.slack_rows.specs.Watch.{directions_of, gate_watch, net_watch, permitted, rise_watch, span_watch}
 use Rattle.slack_rows.specs.Pulse.{left_at, narrowest, told_wave}
 use Rattle.slack_rows.specs.Launched.{checker_launches, gate_launches, opening, two_at_ends}
@@ -51,7 +53,8 @@ told_still (Some n) = told_alone (Ticks (pos n))
 
 -- the least about the slots in which the clock may rise
 abbrev pub least_still : (ℕ → Option ℕ) → ℕ → Events → Told
-least_still still p clock = least (map (λ t. told_still (still t)) (filter clock (range_with_len 0 p)))
+least_still still p clock =
+    least (map (λ t. told_still (still t)) (filter clock (range_with_len 0 p)))
 
 -- ---- checkers
 
@@ -59,18 +62,20 @@ abbrev pub pin_folds : Circuit → Waves → Instance → ℕ → Folds
 pin_folds c ws j i = fold values (wave_of_pin (pin_waves c ws j) i)
 
 -- how long the input is to be stable up to an edge, and after one
-abbrev pub edge_limits : Limits → ℕ × ℕ
-edge_limits limits = (setup_of limits, hold_of limits)
+abbrev pub edge_limits : Limits → Extent
+edge_limits limits = extent_of (setup_of limits) (hold_of limits)
 
-abbrev pub has_no_window : ℕ × ℕ → Bool
-has_no_window limits = (limits.0 == 0) && (limits.1 == 0)
+abbrev pub has_no_window : Extent → Bool
+has_no_window extent = (extent.before == 0) && (extent.after == 0)
 
 -- what a checker watches: its input, about the rises of its clock, or from each to its fall
 abbrev pub rises_of : Circuit → Waves → Instance → Watch
-rises_of c ws j = rise_watch (period c.header) (edge_limits j.limits) (pin_folds c ws j 0) (pin_folds c ws j 1)
+rises_of c ws j =
+    rise_watch (period c.header) (edge_limits j.limits) (pin_folds c ws j 0) (pin_folds c ws j 1)
 
 abbrev pub spans_of : Circuit → Waves → Instance → Watch
-spans_of c ws j = span_watch (period c.header) (edge_limits j.limits) (pin_folds c ws j 0) (pin_folds c ws j 1)
+spans_of c ws j =
+    span_watch (period c.header) (edge_limits j.limits) (pin_folds c ws j 0) (pin_folds c ws j 1)
 
 -- A checker that asks for nothing about a rise has no window there.
 abbrev pub edge_pair : (ℕ → Events → ℕ → Option ℕ) → Circuit → Waves → Instance → Told
@@ -106,7 +111,8 @@ begin_of false = Fall
 abbrev pub told_level : Circuit → Waves → Instance → Bool → ℕ → Option Pin → Told
 told_level c ws j level limit None = told_alone Free
 told_level c ws j level limit (Some pin) =
-    told_of 0 (begin_of level) (told_wave limit (left_at c ws level pin) (read (wave_of_pin (pin_waves c ws j) 0).cells)
+    told_of 0 (begin_of level) (told_wave limit (left_at c ws level pin)
+    (read (wave_of_pin (pin_waves c ws j) 0).cells)
     (narrowest (period c.header) level (read (wave_of_pin (pin_waves c ws j) 0).cells)))
 
 abbrev pub told_width : Circuit → Waves → Instance → Limit → Told
@@ -138,11 +144,13 @@ abbrev pub beside : Instance → ℕ → List ℕ
 beside j marked = filter (is_beside j marked) (range_with_len 0 (length j.pins))
 
 abbrev pub watch_beside : Circuit → Waves → Instance → ℕ → ℕ → Watch
-watch_beside c ws j marked i = gate_watch (period c.header) j.kind (pin_folds c ws j marked) (pin_folds c ws j i)
+watch_beside c ws j marked i =
+    gate_watch (period c.header) j.kind (pin_folds c ws j marked) (pin_folds c ws j i)
 
 -- a change where there is never to be one
 abbrev pub told_never : ℕ → Watch → Told
-told_never p watch = if watch.never && some_event p watch.changes then told_alone NoNumber else told_alone Free
+told_never p watch =
+    if watch.never && some_event p watch.changes then told_alone NoNumber else told_alone Free
 
 -- the windows alone
 abbrev pub in_windows : Watch → Watch
@@ -151,21 +159,25 @@ in_windows watch = record { changes = watch.changes; windows = watch.windows; ne
 abbrev pub told_pin : Circuit → Waves → Instance → Limit → ℕ → ℕ → Told
 told_pin c ws j Gate marked i = told_never (period c.header) (watch_beside c ws j marked i)
 told_pin c ws j GateBefore marked i =
-    told_before (period c.header) (gate_launches c ws j marked i) (in_windows (watch_beside c ws j marked i))
+    told_before (period c.header) (gate_launches c ws j marked i)
+    (in_windows (watch_beside c ws j marked i))
 told_pin c ws j GateAfter marked i =
-    told_after (period c.header) (gate_launches c ws j marked i) (in_windows (watch_beside c ws j marked i))
+    told_after (period c.header) (gate_launches c ws j marked i)
+    (in_windows (watch_beside c ws j marked i))
 told_pin c ws j limit marked i = told_alone Free
 
 abbrev pub told_mark : Circuit → Waves → Instance → Limit → Option ℕ → Told
 told_mark c ws j limit None = told_alone Free
-told_mark c ws j limit (Some marked) = least (map (λ i. told_of i Change (told_pin c ws j limit marked i)) (beside j marked))
+told_mark c ws j limit (Some marked) =
+    least (map (λ i. told_of i Change (told_pin c ws j limit marked i)) (beside j marked))
 
 -- ---- assertions
 
 -- a step that an assertion has not, in some slot
 abbrev pub steps_outside : ℕ → Folds → Folds → Bool
 steps_outside p found wide =
-    list_any (λ t. (has (found t) false true && not (has (wide t) false true)) || (has (found t) true false && not (has (wide t) true false)))
+    list_any (λ t. (has (found t) false true && not (has (wide t) false true))
+    || (has (found t) true false && not (has (wide t) true false)))
     (range_with_len 0 p)
 
 -- a level that it has not, where it has all steps
@@ -179,13 +191,17 @@ watch_net c ws i net d = net_watch c.header net.spec (fold values (ws i)) d
 
 abbrev pub told_net : Circuit → Waves → ℕ → Net → Limit → Told
 told_net c ws i net Assert =
-    least (map (λ d. told_of 0 d (told_never (period c.header) (watch_net c ws i net d))) (directions_of net.spec)
-    ++ told_outside (steps_outside (period c.header) (fold values (ws i)) (permitted c.header net.spec))
+    least (map (λ d. told_of 0 d (told_never (period c.header) (watch_net c ws i net d)))
+    (directions_of net.spec)
+    ++ told_outside (steps_outside (period c.header) (fold values (ws i))
+    (permitted c.header net.spec))
     (first_excess (period c.header) (fold values (ws i)) (permitted c.header net.spec)) ∷ [])
 told_net c ws i net StableFrom =
-    least (map (λ d. told_of 0 d (told_before (period c.header) no_launches (in_windows (watch_net c ws i net d)))) (directions_of net.spec))
+    least (map (λ d. told_of 0 d (told_before (period c.header) no_launches
+    (in_windows (watch_net c ws i net d)))) (directions_of net.spec))
 told_net c ws i net StableTo =
-    least (map (λ d. told_of 0 d (told_after (period c.header) no_launches (in_windows (watch_net c ws i net d)))) (directions_of net.spec))
+    least (map (λ d. told_of 0 d (told_after (period c.header) no_launches
+    (in_windows (watch_net c ws i net d)))) (directions_of net.spec))
 told_net c ws i net limit = told_alone Free
 
 -- ---- in a case
@@ -193,11 +209,13 @@ told_net c ws i net limit = told_alone Free
 abbrev pub told_instance : Circuit → Waves → Limit → Option Instance → Told
 told_instance c ws limit None = told_alone Free
 told_instance c ws limit (Some j) =
-    if may_be_marked j.kind then told_mark c ws j limit (marked_pin j) else told_check c ws j limit (check_of j.kind)
+    if may_be_marked j.kind then told_mark c ws j limit (marked_pin j)
+    else told_check c ws j limit (check_of j.kind)
 
 abbrev pub told_held : Circuit → Waves → ℕ → Limit → Option Net → Told
 told_held c ws i limit None = told_alone Free
-told_held c ws i limit (Some net) = if is_held net then told_net c ws i net limit else told_alone Free
+told_held c ws i limit (Some net) =
+    if is_held net then told_net c ws i net limit else told_alone Free
 
 -- what is told of a limit of a subject in these waves
 unfoldable pub told_in : Circuit → Waves → Subject → Limit → Told
@@ -206,34 +224,39 @@ told_in c ws (OfNet i) limit = told_held c ws i limit (slice_get c.nets i)
 
 -- ---- by arrivals
 
--- There is a window, and the changes of a watch may come in every slot; or two launches may make the only region that
--- meets one of its windows: then what is told goes by arrivals.
+-- There is a window, and the changes of a watch may come in every slot; or two launches may make
+-- the only region that meets one of its windows: then what is told goes by arrivals.
 abbrev pub is_by_arrivals : ℕ → (Window → Region → Bool) → Watch → Bool
 is_by_arrivals p two watch =
-    (all_events p watch.changes && is_met watch.windows false) || list_any (two_in p watch.changes two) watch.windows
+    (all_events p watch.changes && is_met watch.windows false)
+    || list_any (two_in p watch.changes two) watch.windows
 
 abbrev pub check_by_arrivals : Circuit → Waves → Instance → Option Check → Bool
 check_by_arrivals c ws j None = false
 check_by_arrivals c ws j (Some AboutRise) =
     if has_no_window (edge_limits j.limits) then false
     else is_by_arrivals (period c.header) (two_at_ends c ws j 0 1 Rise) (rises_of c ws j)
-check_by_arrivals c ws j (Some RiseToFall) = is_by_arrivals (period c.header) (two_at_ends c ws j 0 1 Rise) (spans_of c ws j)
+check_by_arrivals c ws j (Some RiseToFall) =
+    is_by_arrivals (period c.header) (two_at_ends c ws j 0 1 Rise) (spans_of c ws j)
 check_by_arrivals c ws j (Some Widths) = false
 
 -- beside a mark nothing is told of ways
 abbrev pub beside_by_arrivals : Circuit → Waves → Instance → ℕ → ℕ → Bool
 beside_by_arrivals c ws j marked i =
-    list_any (two_in (period c.header) (watch_beside c ws j marked i).changes (two_at_ends c ws j marked i (opening (closed_bit j.kind))))
+    list_any (two_in (period c.header) (watch_beside c ws j marked i).changes
+    (two_at_ends c ws j marked i (opening (closed_bit j.kind))))
     (watch_beside c ws j marked i).windows
 
 abbrev pub mark_by_arrivals : Circuit → Waves → Instance → Option ℕ → Bool
 mark_by_arrivals c ws j None = false
-mark_by_arrivals c ws j (Some marked) = list_any (beside_by_arrivals c ws j marked) (beside j marked)
+mark_by_arrivals c ws j (Some marked) =
+    list_any (beside_by_arrivals c ws j marked) (beside j marked)
 
 abbrev pub instance_by_arrivals : Circuit → Waves → Option Instance → Bool
 instance_by_arrivals c ws None = false
 instance_by_arrivals c ws (Some j) =
-    if may_be_marked j.kind then mark_by_arrivals c ws j (marked_pin j) else check_by_arrivals c ws j (check_of j.kind)
+    if may_be_marked j.kind then mark_by_arrivals c ws j (marked_pin j)
+    else check_by_arrivals c ws j (check_of j.kind)
 
 -- what is told of a limit of a subject goes by arrivals
 unfoldable pub by_arrivals : Circuit → Waves → Subject → Bool
@@ -268,5 +291,6 @@ abbrev pub worst : Circuit → List Case → Subject → Limit → Worst
 worst c cases subject limit =
     record {
       told = least_told c cases subject limit;
-      cases = map (λ (case : Case). case.number) (filter (has_slack c subject limit (least_told c cases subject limit).slack) cases);
+      cases = map (λ (case : Case). case.number)
+          (filter (has_slack c subject limit (least_told c cases subject limit).slack) cases);
     }

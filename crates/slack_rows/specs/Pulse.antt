@@ -48,17 +48,21 @@ latest_begin s false = s.fall.max
 
 abbrev pub left_if : Split → Bool → Option Pulse → Option ℤ
 left_if s level None = None
-left_if s level (Some pulse) = if int_le (left_of s level pulse.1) (pos 0) then Some (left_of s level pulse.1) else None
+left_if s level (Some pulse) =
+    if int_le (left_of s level pulse.1) (pos 0) then Some (left_of s level pulse.1) else None
 
--- where a driver has two delays and makes a pulse of its own output so narrow that nothing is left of it, what is
+-- where a driver has two delays and makes a pulse of its own output so narrow that nothing is left
+-- of it, what is
 abbrev pub left_by : Circuit → Waves → Instance → Bool → Option Split → Option ℤ
 left_by c ws j level None = None
 left_by c ws j level (Some s) =
-    left_if s level (narrowest (period c.header) level (read (gate_image j.kind (pin_waves c ws j) (marked_pin j)).cells))
+    left_if s level (narrowest (period c.header) level
+    (read (gate_image j.kind (pin_waves c ws j) (marked_pin j)).cells))
 
 abbrev pub left_in : Circuit → Waves → Bool → Option Instance → Option ℤ
 left_in c ws level None = None
-left_in c ws level (Some j) = left_by c ws j (turned j.out_inverted level) (two_delays j.kind j.split)
+left_in c ws level (Some j) = left_by c ws j (turned j.out_inverted level)
+    (two_delays j.kind j.split)
 
 abbrev pub left_on : Circuit → Waves → Bool → Target → Option ℤ
 left_on c ws level (OnNet i) = left_in c ws level (driver c i)
@@ -72,7 +76,9 @@ left_at c ws level pin = left_on c ws (turned pin.inverted level) pin.target
 -- In some slot of the pulse it may step either way, and it may go on changing in the next.
 abbrev pub may_change_again : Slots → Pulse → Bool
 may_change_again wave pulse =
-    list_any (λ t. has (wave t) false true && (has (wave t) true false && not (is_quiet (wave (t + 1))))) (range_with_len pulse.0 pulse.1)
+    list_any (λ t. has (wave t) false true
+    && (has (wave t) true false && not (is_quiet (wave (t + 1)))))
+    (range_with_len pulse.0 pulse.1)
 
 abbrev pub changes_again : Slots → Option Pulse → Bool
 changes_again wave None = false

@@ -40,7 +40,9 @@ limits_of_mark j (Some marked) = if_some (beside j marked) (Gate ∷ GateBefore 
 
 abbrev pub limits_of_instance : Option Instance → List Limit
 limits_of_instance None = []
-limits_of_instance (Some j) = if may_be_marked j.kind then limits_of_mark j (marked_pin j) else limits_of_check (check_of j.kind)
+limits_of_instance (Some j) =
+    if may_be_marked j.kind then limits_of_mark j (marked_pin j)
+    else limits_of_check (check_of j.kind)
 
 abbrev pub limits_of_net : Option Net → List Limit
 limits_of_net None = []
@@ -78,7 +80,8 @@ limit_at c (OfInstance k) word = limit_in (slice_get c.instances k) word
 limit_at c (OfNet i) word = 0
 
 abbrev pub limit_with : Circuit → Subject → Limit → Parameter
-limit_with c subject word = record { subject = subject; word = word; limit = limit_at c subject word }
+limit_with c subject word =
+    record { subject = subject; word = word; limit = limit_at c subject word }
 
 abbrev pub limits_at : Circuit → Subject → List Parameter
 limits_at c subject = map (limit_with c subject) (limits_of c subject)
@@ -95,7 +98,8 @@ pub record Row : Type 0 where
   pub worst : Worst
 
 abbrev pub row : Circuit → List Case → Subject → Limit → Row
-row c cases subject limit = record { subject = subject; limit = limit; worst = worst c cases subject limit }
+row c cases subject limit =
+    record { subject = subject; limit = limit; worst = worst c cases subject limit }
 
 abbrev pub slack_of : Row → Slack
 slack_of r = r.worst.told.slack
@@ -122,13 +126,15 @@ first_where test (case ∷ cases) = if test case then 0 else first_where test ca
 
 -- the first case that has the least slack of a limit, by how many come before it
 abbrev pub first_with : Circuit → List Case → Subject → Limit → ℕ
-first_with c cases subject limit = first_where (has_slack c subject limit (least_told c cases subject limit).slack) cases
+first_with c cases subject limit =
+    first_where (has_slack c subject limit (least_told c cases subject limit).slack) cases
 
 abbrev pub same_region : Region → Region → Bool
 same_region r s = (r.first == s.first) && (r.last == s.last)
 
--- The end of a region before an edge, and its begin after that edge or a later one: it would do earlier or later. Where
--- it is early after one edge and late for a later one, what mends the one makes the other worse.
+-- The end of a region before an edge, and its begin after that edge or a later one: it would do
+-- earlier or later. Where it is early after one edge and late for a later one, what mends the one
+-- makes the other worse.
 abbrev pub are_one_region : Place → Place → Bool
 are_one_region (At v r) (At w s) = nat_le v.opens w.opens && same_region r s
 are_one_region before after = false
@@ -141,21 +147,22 @@ abbrev pub is_same_pin : Told → Told → Bool
 is_same_pin a b = (a.pin == b.pin) && same_direction a.direction b.direction
 
 -- Neither has a number, or both are broken by one region of changes in one case.
-abbrev pub told_once : Bool → Told → Told → Bool
-told_once in_one_case before after =
+abbrev pub reported_once : Bool → Told → Told → Bool
+reported_once in_one_case before after =
     have_no_number before.slack after.slack
-    || (is_broken before.slack && (is_broken after.slack && (in_one_case && (is_same_pin before after
+    || (is_broken before.slack && (is_broken after.slack
+    && (in_one_case && (is_same_pin before after
     && are_one_region before.place after.place))))
 
-abbrev pub is_told_by : Circuit → List Case → Row → Option Limit → Bool
-is_told_by c cases r None = false
-is_told_by c cases r (Some before) =
-    told_once (first_with c cases r.subject before == first_with c cases r.subject r.limit)
+abbrev pub is_reported_by : Circuit → List Case → Row → Option Limit → Bool
+is_reported_by c cases r None = false
+is_reported_by c cases r (Some before) =
+    reported_once (first_with c cases r.subject before == first_with c cases r.subject r.limit)
     (least_told c cases r.subject before) r.worst.told
 
 -- the row before it tells it already
-abbrev pub is_told : Circuit → List Case → Row → Bool
-is_told c cases r = is_told_by c cases r (partner r.limit)
+abbrev pub is_reported : Circuit → List Case → Row → Bool
+is_reported c cases r = is_reported_by c cases r (partner r.limit)
 
 -- ---- in order
 
@@ -169,19 +176,22 @@ sorted [] = []
 sorted (r ∷ rows) = insert r (sorted rows)
 
 abbrev pub all_rows : Circuit → List Case → List Row
-all_rows c cases = flat_map (λ subject. map (row c cases subject) (limits_of c subject)) (subjects c)
+all_rows c cases =
+    flat_map (λ subject. map (row c cases subject) (limits_of c subject)) (subjects c)
 
 -- a row for each limit that something may break and that no other row tells
 abbrev pub own_rows : Circuit → List Case → List Row
-own_rows c cases = filter (λ r. not (is_free (slack_of r)) && not (is_told c cases r)) (all_rows c cases)
+own_rows c cases =
+    filter (λ r. not (is_free (slack_of r)) && not (is_reported c cases r)) (all_rows c cases)
 
--- the worst first; of equal ones in the order of the subjects, and of a subject in that of its limits
+-- the worst first; of equal ones in the order of the subjects, and of a subject in that of its
+-- limits
 unfoldable pub rows : Circuit → List Case → List Row
 rows c cases = sorted (own_rows c cases)
 
 -- a broken one among them
 abbrev pub is_own_row : Circuit → List Case → Row → Bool
-is_own_row c cases r = is_broken (slack_of r) && not (is_told c cases r)
+is_own_row c cases r = is_broken (slack_of r) && not (is_reported c cases r)
 
 -- how many are broken, and how many limits nothing can break
 abbrev pub broken_count : Circuit → List Case → ℕ
@@ -212,7 +222,8 @@ is_level_free c cases subject (Some level) = is_free (least_told c cases subject
 -- Nothing can break it, nor the mark or the assertion itself, which is no limit of time.
 abbrev pub is_free_limit : Circuit → List Case → Row → Bool
 is_free_limit c cases r =
-    not (is_level_limit r.limit) && (is_free (slack_of r) && is_level_free c cases r.subject (level_beside r.limit))
+    not (is_level_limit r.limit) &&
+    (is_free (slack_of r) && is_level_free c cases r.subject (level_beside r.limit))
 
 abbrev pub free_count : Circuit → List Case → ℕ
 free_count c cases =

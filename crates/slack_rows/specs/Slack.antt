@@ -6,9 +6,9 @@ use Rattle.critical_paths.specs.Event.{Events, is_first, is_last}
 use Rattle.critical_paths.specs.Region.{Region, first_from, last_up_to, region_from, region_to, some_event, all_events}
 use Rattle.slack_rows.specs.Window.{Window, Side, Either, begins_before, ends_after, counts_before, counts_after, met}
 
--- What is to spare before a limit is broken: nothing can break it; so many ticks, which are lacking where there are less
--- than 0; the same of the longest or shortest way alone, where the data may change at any tick; or it is broken, and
--- there is no number.
+-- What is to spare before a limit is broken: nothing can break it; so many ticks, which are lacking
+-- where there are less than 0; the same of the longest or shortest way alone, where the data may
+-- change at any tick; or it is broken, and there is no number.
 pub data Slack : Type 0 where
   Free : Slack
   Ticks : ℤ → Slack
@@ -31,7 +31,8 @@ is_broken (Way a) = true
 is_broken (Ticks a) = int_lt a (pos 0)
 is_broken Free = false
 
--- By number: no number comes first, and what nothing can break comes last. A way's number comes before an equal one.
+-- By number: no number comes first, and what nothing can break comes last. A way's number comes
+-- before an equal one.
 abbrev pub is_fewer : Slack → Slack → Bool
 is_fewer NoNumber NoNumber = false
 is_fewer NoNumber (Way b) = true
@@ -50,7 +51,8 @@ is_fewer Free b = false
 -- What is broken comes before what is not, and then it goes by number.
 abbrev pub broken_first : (Slack → Slack → Bool) → Slack → Slack → Bool
 broken_first by_number a b =
-    if is_broken a then (if is_broken b then by_number a b else true) else (if is_broken b then false else by_number a b)
+    if is_broken a then (if is_broken b then by_number a b else true)
+    else (if is_broken b then false else by_number a b)
 
 abbrev pub is_less : Slack → Slack → Bool
 is_less a b = broken_first is_fewer a b
@@ -77,9 +79,10 @@ is_above a b = broken_first is_lower a b
 
 -- ---- the two changes of a window
 
--- What launches say of the changes in a window: of which side those of a region are, and where two launches meet in one
--- region, the last change of the first and the first change of the second. Where a change may come in every slot they may
--- tell the slack of the longest way before the edge, and that of the shortest after it.
+-- What launches say of the changes in a window: of which side those of a region are, and where two
+-- launches meet in one region, the last change of the first and the first change of the second.
+-- Where a change may come in every slot they may tell the slack of the longest way before the edge,
+-- and that of the shortest after it.
 pub record Launches : Type 0 where
   pub side : Window → Region → Side
   pub two : Window → Region → Option (ℕ × ℕ)
@@ -129,8 +132,8 @@ two_in p ev two w = two_alone two w (met p ev w)
 
 -- ---- what is told of a window
 
--- Where a slack is: nowhere in particular; at the end of a region of changes by a window; at an arrival by one, of two
--- launches; in a pulse, by its begin and width; at a level in a slot.
+-- Where a slack is: nowhere in particular; at the end of a region of changes by a window; at an
+-- arrival by one, of two launches; in a pulse, by its begin and width; at a level in a slot.
 pub data Place : Type 0 where
   Nowhere : Place
   At : Window → Region → Place
@@ -153,10 +156,12 @@ told_at slack place = record { slack = slack; place = place; pin = 0; direction 
 
 -- the same by this pin and this direction
 abbrev pub told_of : ℕ → Direction → Told → Told
-told_of pin direction told = record { slack = told.slack; place = told.place; pin = pin; direction = direction }
+told_of pin direction told =
+    record { slack = told.slack; place = told.place; pin = pin; direction = direction }
 
--- How many ticks lie from the last change before to the window, at the end of its region, and from the window to the first
--- change after, at the begin of its own. Without a change nothing can break.
+-- How many ticks lie from the last change before to the window, at the end of its region, and from
+-- the window to the first change after, at the begin of its own. Without a change nothing can
+-- break.
 abbrev pub before_at : ℕ → Events → Window → Option ℕ → Told
 before_at p ev w None = told_alone Free
 before_at p ev w (Some t) = told_at (Ticks (pos w.opens -ℤ pos t)) (At w (region_to p ev t))
@@ -168,11 +173,13 @@ after_at p ev w (Some t) = told_at (Ticks (pos t -ℤ pos (w.closes + 1))) (At w
 -- By two launches, where there are two; or else by the regions.
 abbrev pub before_by : ℕ → Events → Window → Option (ℕ × ℕ) → Option ℕ → Told
 before_by p ev w None last = before_at p ev w last
-before_by p ev w (Some ticks) last = told_at (Ticks (pos w.opens -ℤ pos ticks.0)) (Arrived w ticks.0)
+before_by p ev w (Some ticks) last =
+    told_at (Ticks (pos w.opens -ℤ pos ticks.0)) (Arrived w ticks.0)
 
 abbrev pub after_by : ℕ → Events → Window → Option (ℕ × ℕ) → Option ℕ → Told
 after_by p ev w None first = after_at p ev w first
-after_by p ev w (Some ticks) first = told_at (Ticks (pos ticks.1 -ℤ pos (w.closes + 1))) (Arrived w ticks.1)
+after_by p ev w (Some ticks) first =
+    told_at (Ticks (pos ticks.1 -ℤ pos (w.closes + 1))) (Arrived w ticks.1)
 
 abbrev pub before_window : ℕ → Events → Launches → Window → Told
 before_window p ev launches w =
@@ -191,14 +198,16 @@ lesser best told = if is_less told.slack best.slack then told else best
 -- the first that none after it is less than
 abbrev pub least_from : Told → List Told → Told
 least_from best [] = best
-least_from best (told ∷ more) = if is_less told.slack best.slack then least_from told more else least_from best more
+least_from best (told ∷ more) =
+    if is_less told.slack best.slack then least_from told more else least_from best more
 
 abbrev pub least : List Told → Told
 least tellings = least_from (told_alone Free) tellings
 
 -- ---- what is told of a watch
 
--- Data, and the windows in which it is not to change, of a period of p ticks; or it is never to change.
+-- Data, and the windows in which it is not to change, of a period of p ticks; or it is never to
+-- change.
 pub record Watch : Type 0 where
   pub changes : Events
   pub windows : List Window
@@ -219,11 +228,14 @@ abbrev pub without_number : Bool → Option ℤ → Slack
 without_number true way = NoNumber
 without_number false way = by_way way
 
--- No change is none; where it may come in every slot, or is never to come, there is no number of the wave.
+-- No change is none; where it may come in every slot, or is never to come, there is no number of
+-- the wave.
 abbrev pub told_by : (Window → Told) → Option ℤ → ℕ → Watch → Told
 told_by at way p watch =
     if some_event p watch.changes && is_met watch.windows watch.never
-    then (if all_events p watch.changes || watch.never then told_alone (without_number watch.never way) else least (map at watch.windows))
+    then (if all_events p watch.changes || watch.never
+    then told_alone (without_number watch.never way)
+    else least (map at watch.windows))
     else told_alone Free
 
 abbrev pub told_before : ℕ → Launches → Watch → Told

@@ -22,7 +22,8 @@ use Rattle.slack_rows.specs.declared.slack.Told.{Told as Found}
 use Rattle.slack_rows.specs.declared.around.Side.{Side as Counted}
 use Rattle.slack_rows.specs.declared.around.Side.TheVariants.{Before as LiesBefore, Late as CountsLate, Early as CountsEarly, Either as CountsEither, Two as CountsTwo, After as LiesAfter}
 use Rattle.slack_rows.specs.declared.window.Window.{Window as Around}
-use Rattle.slack_rows.specs.Window.{Window, Side, Late, Early, Either}
+use Rattle.slack_rows.specs.declared.window.Extent.{Extent}
+use Rattle.slack_rows.specs.Window.{Window, Side, Late, Early, Either, extent_of}
 use Rattle.slack_rows.specs.Slack.{Slack, Free, Ticks, Way, NoNumber, Place, Nowhere, At, Arrived, InPulse, AtLevel, Told, is_broken, is_less}
 
 -- ---- slacks
@@ -61,13 +62,13 @@ abbrev pub ahead_of : ℕ → ℤ → ℕ
 ahead_of p tick = unsigned_abs (pos (3 * p) +ℤ tick)
 
 -- a window by its edge, from so many ticks before it to so many after it
-abbrev pub window_about : Ticked → ℕ × ℕ → Around
-window_about edge limits =
+abbrev pub window_about : Ticked → Extent → Around
+window_about edge extent =
     record {
       first = edge.first;
       last = edge.last;
-      from = edge.first -ℤ pos limits.0 +ℤ pos 1;
-      to = edge.last +ℤ pos limits.1;
+      from = edge.first -ℤ pos extent.before +ℤ pos 1;
+      to = edge.last +ℤ pos extent.after;
     }
 
 abbrev pub window_in : ℕ → Around → Window
@@ -93,7 +94,8 @@ place_without Still = Nowhere
 place_without (Level high slot) = AtLevel slot
 
 abbrev pub in_pulse : Found → Place
-in_pulse found = InPulse (unsigned_abs found.tick) (unsigned_abs (found.window.last -ℤ found.window.first))
+in_pulse found = InPulse (unsigned_abs found.tick)
+    (unsigned_abs (found.window.last -ℤ found.window.first))
 
 -- A pulse that may be swallowed is one slot wide.
 abbrev pub place_by : ℕ → Found → By → Place
@@ -119,8 +121,8 @@ told_by_found p found =
       direction = found.direction;
     }
 
--- A number by a region. The region and its window do not begin before the ticks that the definitions count, so that two
--- of them compare as the definitions say.
+-- A number by a region. The region and its window do not begin before the ticks that the
+-- definitions count, so that two of them compare as the definitions say.
 pub record IsByRegion (p : ℕ) (found : Found) (r : Ticked) : Type 0 where
   pub number : (n : ℤ) × (found.slack ≡ NumberOfTicks n)
   pub opens : pos 0 ≤ℤ (pos (3 * p) +ℤ (found.window.from -ℤ pos 1))
@@ -270,7 +272,7 @@ abbrev pub told_none : Reason → ℕ → Direction → Found
 told_none reason pin direction =
     record {
       slack = NumberOfNone reason;
-      window = window_about (record { first = pos 0; last = pos 0 }) (0, 0);
+      window = window_about (record { first = pos 0; last = pos 0 }) (extent_of 0 0);
       pin = pin;
       direction = direction;
       tick = pos 0;

@@ -1,4 +1,5 @@
--- Watches: what each checker, mark and assertion watches, and the windows in which it is not to change.
+-- Watches: what each checker, mark and assertion watches, and the windows in which it is not to
+-- change.
 use Rattle.std.specs.Prelude.{ℕ, ◌+◌, ◌-◌, ◌==◌, Bool, true, false, not, ◌&&◌, List, [], ◌∷◌, map, filter_map, if◌then◌else◌, is_none, Option, Some, None}
 use Rattle.std.specs.List.{range_with_len}
 use Rattle.std.specs.Option.{option_map}
@@ -16,17 +17,18 @@ use Rattle.critical_paths.specs.declared.direction.Direction.{Direction}
 use Rattle.critical_paths.specs.declared.direction.Direction.TheVariants.{Rise, Fall, Change}
 use Rattle.critical_paths.specs.Event.{Events, events, moves}
 use Rattle.critical_paths.specs.Region.{Region, all_events, regions, some_event}
-use Rattle.slack_rows.specs.Window.{about}
+use Rattle.slack_rows.specs.declared.window.Extent.{Extent}
+use Rattle.slack_rows.specs.Window.{about, extent_of}
 use Rattle.slack_rows.specs.Slack.{Watch}
 
 -- ---- about the rise of a clock
 
 -- a window about each region in which the clock may rise; no change where it may rise in every slot
-abbrev pub rise_watch : ℕ → ℕ × ℕ → Folds → Folds → Watch
-rise_watch p limits clock input =
+abbrev pub rise_watch : ℕ → Extent → Folds → Folds → Watch
+rise_watch p extent clock input =
     record {
       changes = events Change input;
-      windows = map (about p limits) (regions p (events Rise clock));
+      windows = map (about p extent) (regions p (events Rise clock));
       never = all_events p (events Rise clock);
     }
 
@@ -39,18 +41,20 @@ fall_within clock t (Some low) = option_map (λ high. t + high) (last_fall clock
 
 -- the tick of the last fall after a rise at a tick
 abbrev pub fall_of : ℕ → Folds → ℕ → Option ℕ
-fall_of p clock t = if has (clock t) false true then fall_within clock t (first_low p clock t) else None
+fall_of p clock t =
+    if has (clock t) false true then fall_within clock t (first_low p clock t) else None
 
 abbrev pub falls_at : ℕ → Option ℕ → Bool
 falls_at tick None = false
 falls_at tick (Some fall) = fall == tick
 
--- The rises that have their last fall at one tick, as far as they go without a gap: from the first of them to that fall.
--- The tick before is a whole period less one on.
+-- The rises that have their last fall at one tick, as far as they go without a gap: from the first
+-- of them to that fall. The tick before is a whole period less one on.
 abbrev pub span_by : ℕ → Folds → ℕ → Option ℕ → Option Region
 span_by p clock t None = None
 span_by p clock t (Some fall) =
-    if falls_at (fall + p) (fall_of p clock (t + (p - 1))) then None else Some (record { first = t; last = fall })
+    if falls_at (fall + p) (fall_of p clock (t + (p - 1))) then None
+    else Some (record { first = t; last = fall })
 
 abbrev pub span_at : ℕ → Folds → ℕ → Option Region
 span_at p clock t = span_by p clock t (fall_of p clock t)
@@ -58,27 +62,30 @@ span_at p clock t = span_by p clock t (fall_of p clock t)
 abbrev pub spans : ℕ → Folds → List Region
 spans p clock = filter_map (span_at p clock) (range_with_len 0 p)
 
--- The same by how long the clock is high after the rise, and after one in the slot before: where that is one slot more,
--- both have their last fall at one tick.
+-- The same by how long the clock is high after the rise, and after one in the slot before: where
+-- that is one slot more, both have their last fall at one tick.
 abbrev pub follows : Option ℕ → ℕ → Bool
 follows None high = false
 follows (Some before) high = before == high + 1
 
 abbrev pub span_told : ℕ → Option ℕ → Option ℕ → Option Region
 span_told t before None = None
-span_told t before (Some high) = if follows before high then None else Some (record { first = t; last = t + high })
+span_told t before (Some high) =
+    if follows before high then None else Some (record { first = t; last = t + high })
 
 -- it may stay at 1 in every slot
 abbrev pub may_stay_high : ℕ → Folds → Bool
 may_stay_high p clock = is_none (first_low p clock 0)
 
--- a window from each such rise to its fall; no change where the clock may stay high for a period, if it rises and falls at all
-abbrev pub span_watch : ℕ → ℕ × ℕ → Folds → Folds → Watch
-span_watch p limits clock input =
+-- a window from each such rise to its fall; no change where the clock may stay high for a period,
+-- if it rises and falls at all
+abbrev pub span_watch : ℕ → Extent → Folds → Folds → Watch
+span_watch p extent clock input =
     record {
       changes = events Change input;
-      windows = map (about p limits) (spans p clock);
-      never = may_stay_high p clock && (some_event p (events Rise clock) && falls_somewhere p clock);
+      windows = map (about p extent) (spans p clock);
+      never = may_stay_high p clock
+          && (some_event p (events Rise clock) && falls_somewhere p clock);
     }
 
 -- ---- marks
@@ -92,7 +99,7 @@ abbrev pub gate_watch : ℕ → Kind → Folds → Folds → Watch
 gate_watch p kind mark pin =
     record {
       changes = events Change pin;
-      windows = map (about p (1, 0)) (regions p (opens kind mark));
+      windows = map (about p (extent_of 1 0)) (regions p (opens kind mark));
       never = all_events p (opens kind mark);
     }
 
@@ -118,6 +125,6 @@ abbrev pub net_watch : Header → AssertSpec → Folds → Direction → Watch
 net_watch h spec found d =
     record {
       changes = events d found;
-      windows = map (about (period h) (1, 0)) (regions (period h) (forbids h spec d));
+      windows = map (about (period h) (extent_of 1 0)) (regions (period h) (forbids h spec d));
       never = all_events (period h) (forbids h spec d);
     }

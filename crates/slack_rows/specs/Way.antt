@@ -97,9 +97,11 @@ clock_edge c ws corner j d tick =
 -- as early as it may be from the window's first tick, or as late as it may be from its last
 abbrev pub guard : Circuit → Waves → Instance → Direction → Corner → Window → Option Guard
 guard c ws j closing Early w =
-    option_map (λ edge. record { window = w; edge = edge }) (clock_edge c ws Early j Rise w.edge_first)
+    option_map (λ edge. record { window = w; edge = edge })
+    (clock_edge c ws Early j Rise w.edge_first)
 guard c ws j closing Late w =
-    option_map (λ edge. record { window = w; edge = edge }) (clock_edge c ws Late j closing w.edge_last)
+    option_map (λ edge. record { window = w; edge = edge })
+    (clock_edge c ws Late j closing w.edge_last)
 
 abbrev pub with_guard : Option Guard → Option (List Guard) → Option (List Guard)
 with_guard None guards = None
@@ -107,7 +109,8 @@ with_guard (Some g) None = None
 with_guard (Some g) (Some guards) = Some (g ∷ guards)
 
 -- those of all windows, if each is known
-abbrev pub guards : Circuit → Waves → Instance → Direction → Corner → List Window → Option (List Guard)
+abbrev pub guards : Circuit → Waves → Instance → Direction → Corner → List Window →
+    Option (List Guard)
 guards c ws j closing corner [] = Some []
 guards c ws j closing corner (w ∷ windows) =
     with_guard (guard c ws j closing corner w) (guards c ws j closing corner windows)
@@ -117,11 +120,13 @@ guards c ws j closing corner (w ∷ windows) =
 -- The longest ways, before the windows of a clock at its earliest.
 abbrev pub last_way : Circuit → Waves → Instance → Direction → List Window → Option ℤ
 last_way c ws j closing windows =
-    option_and_then (λ arrivals. option_and_then (least_before (period c.header) arrivals) (guards c ws j closing Early windows))
+    option_and_then (λ arrivals. option_and_then (least_before (period c.header) arrivals)
+    (guards c ws j closing Early windows))
     (pin_arrivals c ws Late j 1 Change)
 
 -- The shortest, after those of a clock at its latest.
 abbrev pub first_way : Circuit → Waves → Instance → Direction → List Window → Option ℤ
 first_way c ws j closing windows =
-    option_and_then (λ arrivals. option_and_then (least_after (period c.header) arrivals) (guards c ws j closing Late windows))
+    option_and_then (λ arrivals. option_and_then (least_after (period c.header) arrivals)
+    (guards c ws j closing Late windows))
     (pin_arrivals c ws Early j 1 Change)

@@ -1,27 +1,36 @@
--- Windows: the ticks about an edge in which data is not to change, and on which side of the edge a change in one counts.
+-- Windows: the ticks about an edge in which data is not to change, and on which side of the edge a
+-- change in one counts.
 use Rattle.std.specs.Prelude.{ℕ, ◌+◌, ◌-◌, ◌*◌, nat_le, nat_lt, Bool, true, false, not, ◌&&◌, ◌||◌, List, filter}
 use Rattle.critical_paths.specs.Event.{Events}
 use Rattle.critical_paths.specs.Region.{Region, regions_from}
+use Rattle.slack_rows.specs.declared.window.Extent.{Extent}
 
--- The edge lies between two ticks, which are both its own; the window goes from the tick after `opens` to `closes`.
+-- The edge lies between two ticks, which are both its own; the window goes from the tick after
+-- `opens` to `closes`.
 pub record Window : Type 0 where
   pub edge_first : ℕ
   pub edge_last : ℕ
   pub opens : ℕ
   pub closes : ℕ
 
--- Ticks count from three periods before the period in which an edge begins, so that what lies before a window is there.
+-- Ticks count from three periods before the period in which an edge begins, so that what lies
+-- before a window is there.
 abbrev pub ahead : ℕ → ℕ → ℕ
 ahead p t = 3 * p + t
 
--- from so many ticks before the edges of a region, the first of which counts, to so many after the last
-abbrev pub about : ℕ → ℕ × ℕ → Region → Window
-about p limits r =
+-- how far a window goes before an edge and after it
+abbrev pub extent_of : ℕ → ℕ → Extent
+extent_of before after = record { before = before; after = after }
+
+-- from so many ticks before the edges of a region, the first of which counts, to so many after the
+-- last
+abbrev pub about : ℕ → Extent → Region → Window
+about p extent r =
     record {
       edge_first = ahead p r.first;
       edge_last = ahead p r.last;
-      opens = ahead p r.first - limits.0;
-      closes = ahead p r.last + limits.1;
+      opens = ahead p r.first - extent.before;
+      closes = ahead p r.last + extent.after;
     }
 
 -- ---- where a region lies
@@ -40,7 +49,8 @@ meets w r = not (is_before w r) && not (is_after w r)
 
 -- ---- sides
 
--- Of the changes in a window: they come too late for the edge, too early after it, or either, since no side is known.
+-- Of the changes in a window: they come too late for the edge, too early after it, or either, since
+-- no side is known.
 pub data Side : Type 0 where
   Late : Side
   Early : Side

@@ -1,12 +1,14 @@
 //! The paths that a slack comes from.
 
-ghost use Rattle.std.specs.Prelude.{◌≡◌, ℕ, ◌^◌, IfOk, IfSome, None, OnOk, slice_get};
+ghost use Rattle.std.specs.Prelude.{◌≡◌, ℕ, ◌^◌, IfOk, IfSome, None, OnOk, false, slice_get};
 ghost use Rattle.std.specs.List.{All};
 ghost use Rattle.fixpoint_engine.specs.Waves.{waves_of};
+ghost use Rattle.critical_paths.specs.Event.{other_corner};
 ghost use Rattle.critical_paths.specs.Tick.{IsWithin};
 ghost use Rattle.critical_paths.specs.Known.{Knows};
 ghost use Rattle.critical_paths.specs.Views.{IsPin, Sees};
-ghost use Rattle.slack_rows.specs.Held.{GoesOn, IsHeld, ShowAt, ShowsAt, clock_tick, data_tick, edge_tick};
+ghost use Rattle.slack_rows.specs.Held.{GoesOn, IsHeld};
+ghost use Rattle.slack_rows.specs.Shown.{ExplainAt, ExplainEnds, Explains, ShowAt, ShowsAt, clock_tick, data_tick, edge_tick, is_by_paths};
 ghost use Rattle.slack_rows.specs.Views.{corner_of, is_of_width};
 
 use crate::checker::held_by;
@@ -63,6 +65,9 @@ fn pulse_paths<W: CyclicWave<Item = Value>>(
         paths.old.nodes paths.new.nodes paths.new.met.entries) }
     ensures begin { IfOk result (λ found. ShowsAt told.window.first found.«data») }
     ensures end { IfOk result (λ found. ShowsAt told.window.last found.clock) }
+    ensures corners { IfOk result (λ found.
+        Explains paths.new.nodes Corner.Late found.«data»
+        × Explains paths.new.nodes Corner.Early found.clock) }
 {
     let Some(pin) = checker.pins.as_slice().get(0) else {
         return Ok(Causes::NONE);
@@ -86,8 +91,10 @@ fn pulse_paths<W: CyclicWave<Item = Value>>(
 
 /// What an instance's limit is held against: the clock of a checker, or the mark.
 fn held_of(instance: &Instance, place: u16) -> Option<Held>
-    ensures pin { IfSome result (λ held. (k : ℕ) × (slice_get instance.now.pins k ≡ Some held.pin)) }
-    ensures clock { IfSome result (λ held. (k : ℕ) × (slice_get instance.now.pins k ≡ Some held.clock)) }
+    ensures pin { IfSome result (λ held.
+        (k : ℕ) × (slice_get instance.now.pins k ≡ Some held.pin)) }
+    ensures clock { IfSome result (λ held.
+        (k : ℕ) × (slice_get instance.now.pins k ≡ Some held.clock)) }
 {
     let count = instance.pins.len();
     let number = usize::from(place);
@@ -152,6 +159,8 @@ fn held_paths<W: CyclicWave<Item = Value>>(
         paths.old.nodes paths.new.nodes paths.new.met.entries) }
     ensures change { IfOk result (λ found. ShowsAt told.tick found.«data») }
     ensures edge { IfOk result (λ found. ShowsAt (edge_tick corner told.window) found.clock) }
+    ensures corner { IfOk result (λ found.
+        Explains paths.new.nodes (other_corner corner) found.clock) }
 {
     let Some(held) = held_of(instance, told.pin) else {
         return Ok(Causes::NONE);
@@ -176,6 +185,7 @@ fn net_paths<W: CyclicWave<Item = Value>>(
         paths.old.nodes paths.new.nodes paths.new.met.entries) }
     ensures change { IfOk result (λ found. IfSome found.«data» (λ at. at.tick ≡ told.tick)) }
     ensures none { IfOk result (λ found. found.clock ≡ None) }
+    ensures corner { IfOk result (λ found. Explains paths.new.nodes corner found.«data») }
 {
     let Some(_) = view.circuit.net(net) else {
         return Ok(Causes::NONE);
@@ -214,6 +224,9 @@ fn instance_paths<W: CyclicWave<Item = Value>>(
         ShowsAt (data_tick (is_of_width parameter.word) told) found.«data») }
     ensures edge { IfOk result (λ found. ShowsAt (clock_tick (is_of_width parameter.word)
         (corner_of parameter.word) told) found.clock) }
+    ensures corners { IfOk result (λ found.
+        ExplainEnds (is_of_width parameter.word) (corner_of parameter.word) paths.new.nodes
+        found.«data» found.clock) }
 {
     let Some(instance) = view.circuit.instance(number) else {
         return Ok(Causes::NONE);
@@ -222,6 +235,17 @@ fn instance_paths<W: CyclicWave<Item = Value>>(
         return pulse_paths(view, paths, instance, told);
     }
     held_paths(view, paths, instance, parameter.word.corner(), told)
+}
+
+/// Whether a slack comes of paths: it has a number, and that is not one of quiet ticks or of a pulse
+/// that may change more than once.
+fn comes_of_paths(by: By) -> bool
+    ensures { result ≡ is_by_paths by }
+{
+    match by {
+        By::Region(_) | By::Way(_) | By::Pulse | By::Swallowed => true,
+        By::Quiet | By::Repeated | By::Nothing => false,
+    }
 }
 
 /// The paths of a slack; none where it has no number, or its number is not one of paths.
@@ -238,8 +262,12 @@ pub fn causes_of<W: CyclicWave<Item = Value>>(
         paths.old.nodes paths.new.nodes paths.new.met.entries) }
     ensures ticks { IfOk result (λ found.
         ShowAt parameter.subject parameter.word told found.«data» found.clock) }
+    ensures corners { IfOk result (λ found. ExplainAt parameter.subject parameter.word
+        paths.new.nodes found.«data» found.clock) }
+    ensures none { is_by_paths told.by ≡ false → IfOk result (λ found.
+        (found.«data» ≡ None) × (found.clock ≡ None)) }
 {
-    if matches!(told.by, By::Nothing | By::Quiet | By::Repeated) {
+    if !comes_of_paths(told.by) {
         return Ok(Causes::NONE);
     }
     // no slack lies so far from the first period

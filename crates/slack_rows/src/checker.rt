@@ -27,7 +27,7 @@ use crate::sides::about_all;
 use crate::slack::{Reason, Slacks};
 use crate::watch::{fold, slots};
 use crate::ways::by_ways;
-use crate::window::{spans_of, stays_high};
+use crate::window::{Extent, spans_of, stays_high};
 use critical_paths::{Direction, Paths, Region, Slots, Test, View};
 use element_kinds::Check;
 use flat_circuit::{Instance, Limits};
@@ -36,10 +36,13 @@ use step_values::Value;
 use wave_core::CyclicWave;
 
 /// How long before an edge and after it data is not to change.
-fn edge_limits(limits: Limits) -> (u16, u16)
+fn edge_limits(limits: Limits) -> Extent
     ensures { result ≡ limits_at_edges limits }
 {
-    (limits.setup(), limits.hold())
+    Extent {
+        before: limits.setup(),
+        after: limits.hold(),
+    }
 }
 
 /// The pins of a checker.
@@ -70,7 +73,7 @@ fn about_edges<W: CyclicWave<Item = Value>>(
     paths: &mut Paths,
     held: Held,
     edges: &[Region],
-    limits: (u16, u16),
+    extent: Extent,
     changes: &Slots,
 ) -> Result<Slacks, NoMemory>
     requires sees { Sees view.now.circuit.now view.now.waves.now view.now.hazards.now }
@@ -78,14 +81,14 @@ fn about_edges<W: CyclicWave<Item = Value>>(
         paths.old.met.entries }
     requires held { IsHeld view.now.circuit.now held }
     requires edges { All (IsInPeriod (period view.now.circuit.now.header)) edges.now }
-    requires limits { limits.0 ≤ period view.now.circuit.now.header }
+    requires extent { extent.before ≤ period view.now.circuit.now.header }
     requires changes { IsSlots (period view.now.circuit.now.header) changes.now }
     ensures paths { OnOk result (GoesOn view.now.circuit.now (waves_of view.now.waves.now)
         paths.old.nodes paths.new.nodes paths.new.met.entries) }
     ensures level { IfOk result (λ found. found.level ≡ None) }
     ensures told { let c = view.now.circuit.now in let p = period c.header in
         let ws = waves_of view.now.waves.now in
-        let windows = windows_about p limits edges.now in (ev : Events) →
+        let windows = windows_about p extent edges.now in (ev : Events) →
         AreChanges p ev changes.now.regions → changes.now.are_all ≡ false →
         AllByRecursion (IsPlaced p) windows → IfOk result
         (TellWindows p ev (launches_of c ws (Some held)) (two_of c ws (Some held)) held.place
@@ -95,7 +98,7 @@ fn about_edges<W: CyclicWave<Item = Value>>(
 {
     let watch = Watch {
         edges,
-        limits,
+        extent,
         changes: changes.regions.as_slice(),
         direction: Direction::Change,
         held: Some(held),

@@ -5,7 +5,7 @@ ghost use Rattle.std.specs.Prelude.{◌≡◌};
 ghost use Rattle.slack_rows.specs.Held.{place_in, step_held, told_by_arrival};
 
 use crate::slack::{By, Slack, Told};
-use crate::window::Window;
+use crate::window::{Extent, Window};
 use critical_paths::{Arrival, Corner, Direction, PinEvent, Region};
 use flat_circuit::Pin;
 
@@ -20,12 +20,11 @@ pub struct Held {
     pub shuts: Direction,
 }
 
-/// What is to be quiet about edges: so many ticks before and after them. What is held against
-/// nothing is a net.
+/// What is to be quiet about edges, and how far about them. What is held against nothing is a net.
 #[derive(Clone, Copy)]
 pub struct Watch<'a> {
     pub edges: &'a [Region],
-    pub limits: (u16, u16),
+    pub extent: Extent,
     pub changes: &'a [Region],
     pub direction: Direction,
     pub held: Option<Held>,

@@ -5,8 +5,9 @@
 //! in them counts; `specs/Slack` how many ticks that leaves; `specs/Watch` and `specs/Pulse` what
 //! each checker, mark and assertion watches; `specs/Limit` the slack of a limit over all cases,
 //! `specs/Rows` which limits there are and in which order they are told, and `specs/Laws` that a
-//! limit is broken exactly where there is a fault. `specs/Views` and `specs/Held` say what the
-//! program's own types mean in these words, `specs/Known` what [`Rows`] knows over some cases.
+//! limit is broken exactly where there is a fault. `specs/Views`, `specs/Held` and `specs/Arrived`
+//! say what the program's own types mean in these words, `specs/Known` what [`Rows`] knows over some
+//! cases, `specs/Shown` which end of a region each path of a slack explains.
 //!
 //! The layer above makes [`Rows`] of a circuit and adds case after case.
 #![tactic(auto)]

@@ -9,7 +9,7 @@ ghost use Rattle.slack_rows.specs.Slack.{told_of};
 ghost use Rattle.slack_rows.specs.Views.{Tells};
 
 use crate::slack::{By, Slack, Slacks, Told};
-use crate::window::Window;
+use crate::window::{Extent, Window};
 use critical_paths::{Direction, Region};
 use step_values::Value;
 use wave_core::{Cell, CyclicWave};
@@ -56,7 +56,7 @@ fn told(slot: u16, quiet: Option<u16>) -> Option<Told>
     };
     Some(Told {
         slack: Slack::Ticks(i64::from(ticks)),
-        window: Window::about(edge, (0, 0)),
+        window: Window::about(edge, Extent::NONE),
         pin: 1,
         direction: Direction::Change,
         tick: i64::from(slot),

@@ -20,7 +20,7 @@ use crate::held::{Held, Watch, place_of};
 use crate::launch::by_launch_if;
 use crate::slack::{By, Slack, Slacks, Told};
 use crate::two::{by_two_if, meets_two};
-use crate::window::{Window, spare_at};
+use crate::window::{Extent, Window, spare_at};
 use critical_paths::{Corner, Paths, Region, View};
 use scald_base::NoMemory;
 use step_values::Value;
@@ -279,7 +279,7 @@ pub fn about_all<W: CyclicWave<Item = Value>>(
         paths.old.met.entries }
     requires held { MayBeHeld view.now.circuit.now watch.held }
     requires edges { All (IsInPeriod (period view.now.circuit.now.header)) watch.edges.now }
-    requires limits { watch.limits.0 ≤ period view.now.circuit.now.header }
+    requires extent { watch.extent.before ≤ period view.now.circuit.now.header }
     requires changes { All (IsInPeriod (period view.now.circuit.now.header)) watch.changes.now }
     requires few { length watch.changes.now ≤ 4096 }
     ensures paths { OnOk result (GoesOn view.now.circuit.now (waves_of view.now.waves.now)
@@ -287,7 +287,7 @@ pub fn about_all<W: CyclicWave<Item = Value>>(
     ensures level { IfOk result (λ found. found.level ≡ None) }
     ensures told { let c = view.now.circuit.now in let p = period c.header in
         let ws = waves_of view.now.waves.now in
-        let windows = windows_about p watch.entry.limits watch.entry.edges.now in (ev : Events) →
+        let windows = windows_about p watch.entry.extent watch.entry.edges.now in (ev : Events) →
         AreChanges p ev watch.entry.changes.now → AllByRecursion (IsPlaced p) windows →
         IfOk result
         (TellWindows p ev (launches_of c ws watch.entry.held) (two_of c ws watch.entry.held)
@@ -295,7 +295,7 @@ pub fn about_all<W: CyclicWave<Item = Value>>(
 {
     let mut all = Slacks::NONE;
     for edge in watch.edges {
-        let window = window_of(*edge, watch.limits, view.period());
+        let window = window_of(*edge, watch.extent, view.period());
         let found = about(view, paths, watch, window)?;
         all = all.lesser(found);
     }
@@ -303,12 +303,14 @@ pub fn about_all<W: CyclicWave<Item = Value>>(
 }
 
 /// The window about an edge of the period.
-pub fn window_of(edge: Region, limits: (u16, u16), period: u16) -> Window
+pub fn window_of(edge: Region, extent: Extent, period: u16) -> Window
     requires edge { IsInPeriod period edge }
-    requires limits { limits.0 ≤ period }
+    requires extent { extent.before ≤ period }
     requires period { period ≤ 4096 }
-    ensures is { result ≡ window_about edge limits }
+    ensures is { result ≡ window_about edge extent }
     ensures close { IsCloseWindow period result }
 {
-    Window::about(edge, limits)
+    // no window is wide
+    let _after = extent.after;
+    Window::about(edge, extent)
 }

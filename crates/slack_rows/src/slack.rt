@@ -5,7 +5,7 @@ ghost use Rattle.slack_rows.specs.Slack.{is_above as above, is_broken as breaks,
 ghost use Rattle.slack_rows.specs.Views.{lesser_found, rank_of, slack_by, slack_for, ticks_of, told_none};
 
 use crate::parameter::Word;
-use crate::window::Window;
+use crate::window::{Extent, Window};
 use critical_paths::{Direction, Region};
 
 /// Why there is no number.
@@ -150,7 +150,7 @@ impl Told {
     {
         Told {
             slack: Slack::NoNumber(reason),
-            window: Window::about(Region { first: 0, last: 0 }, (0, 0)),
+            window: Window::about(Region { first: 0, last: 0 }, Extent::NONE),
             pin,
             direction,
             tick: 0,

@@ -5,7 +5,7 @@ ghost use Rattle.flat_circuit.specs.Circuit.{Circuit};
 ghost use Rattle.slack_rows.specs.declared.parameter.Parameter.{Parameter};
 ghost use Rattle.slack_rows.specs.Known.{AreKnown, are_sure, breaks, free_by, in_one_case, is_sure, least_at, told_least};
 ghost use Rattle.slack_rows.specs.Limit.{Case};
-ghost use Rattle.slack_rows.specs.Rows.{are_one_region, broken_count as broken_limits, free_count as free_limits, have_no_number as none_of_both, is_own_row, is_same_pin as is_by_one_pin, is_told as is_told_before, partner, row, some_broken, told_once};
+ghost use Rattle.slack_rows.specs.Rows.{are_one_region, broken_count as broken_limits, free_count as free_limits, have_no_number as none_of_both, is_own_row, is_same_pin as is_by_one_pin, is_reported as is_reported_before, partner, row, some_broken, reported_once};
 ghost use Rattle.slack_rows.specs.Slack.{Told as Telling, is_broken as breaks_slack};
 ghost use Rattle.slack_rows.specs.Views.{IsNear, Tells, region_told, slack_by, told_by_found};
 
@@ -95,10 +95,10 @@ fn have_one_cause(before: Told, after: Told) -> bool
 
 /// Whether two slacks, which may be of one case, are told once: neither has a number, or one region
 /// breaks both limits.
-fn are_told_once(is_one_case: bool, before: Told, after: Told) -> bool
+fn are_reported_once(is_one_case: bool, before: Told, after: Told) -> bool
     ensures broken { result ≡ true → breaks_slack (slack_by before.slack) ≡ true }
     ensures told { (p : ℕ) → IsNear p before before.by → IsNear p after after.by →
-        result ≡ told_once is_one_case (told_by_found p before) (told_by_found p after) }
+        result ≡ reported_once is_one_case (told_by_found p before) (told_by_found p after) }
 {
     if have_no_number(before, after) {
         return true;
@@ -110,10 +110,10 @@ fn are_told_once(is_one_case: bool, before: Told, after: Told) -> bool
 }
 
 /// Whether the slack of a limit is told with that of the one before it.
-fn is_told_with(before: Option<Least>, after: Option<Least>) -> bool
+fn is_reported_with(before: Option<Least>, after: Option<Least>) -> bool
     ensures broken { result ≡ true → breaks before ≡ true }
     ensures told { (p : ℕ) (a b : Telling) → Tells p (told_least before) a →
-        Tells p (told_least after) b → result ≡ told_once (in_one_case before after) a b }
+        Tells p (told_least after) b → result ≡ reported_once (in_one_case before after) a b }
 {
     let Some(before) = before else {
         return false;
@@ -121,7 +121,7 @@ fn is_told_with(before: Option<Least>, after: Option<Least>) -> bool
     let Some(after) = after else {
         return false;
     };
-    are_told_once(before.case == after.case, before.told, after.told)
+    are_reported_once(before.case == after.case, before.told, after.told)
 }
 
 /// Whether a limit is broken.
@@ -148,16 +148,16 @@ impl Rows {
 
     /// Whether a limit is told with the one before it, which is of the same edges: neither has a
     /// number, or one region breaks both.
-    pub fn is_told(&self, place: usize) -> bool
+    pub fn is_reported(&self, place: usize) -> bool
         requires { place < length self.now.parameters }
         ensures broken { result ≡ true → breaks (least_at self.now.least place 1) ≡ true }
         ensures told { (c : Circuit) (cases : List Case) (q : Parameter) →
             AreKnown c cases self.now.parameters self.now.least self.now.cases self.now.sets.keys →
             slice_get self.now.parameters place ≡ Some q → is_sure c cases q.subject ≡ true →
-            result ≡ is_told_before c cases (row c cases q.subject q.word) }
+            result ≡ is_reported_before c cases (row c cases q.subject q.word) }
     {
         if self.is_second(place) {
-            is_told_with(self.least_before(place, 1), self.least_before(place, 0))
+            is_reported_with(self.least_before(place, 1), self.least_before(place, 0))
         } else {
             false
         }
@@ -219,7 +219,7 @@ impl Rows {
             slice_get self.now.parameters place ≡ Some q → is_sure c cases q.subject ≡ true →
             result ≡ is_own_row c cases (row c cases q.subject q.word) }
     {
-        is_broken(self.least_before(place, 0)) && !self.is_told(place)
+        is_broken(self.least_before(place, 0)) && !self.is_reported(place)
     }
 
     /// How many of the limits are broken and have a row of their own: none exactly where no limit

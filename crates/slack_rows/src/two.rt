@@ -1,7 +1,7 @@
 //! Two launches that make one region of changes: the last arrival of the one, and the first of the
 //! other.
 
-ghost use Rattle.std.specs.Prelude.{◌≡◌, ◌<◌, ◌≤◌, ◌+◌, ◌*◌, ◌^◌, ◌≤ℤ◌, ◌+ℤ◌, IfNone, IfOk, IfSome, None, OnOk, Some, if◌then◌else◌, ◌==◌, length, pos};
+ghost use Rattle.std.specs.Prelude.{◌≡◌, ◌<◌, ◌≤◌, ◌+◌, ◌*◌, ◌^◌, ◌≤ℤ◌, ◌+ℤ◌, ◌-ℤ◌, int_lt, IfNone, IfOk, IfSome, None, OnOk, Some, true, if◌then◌else◌, ◌==◌, length, pos};
 ghost use Rattle.std.specs.Option.{option_map};
 ghost use Rattle.scald_base.specs.Time.{period};
 ghost use Rattle.fixpoint_engine.specs.Waves.{target_wire, waves_of};
@@ -10,7 +10,8 @@ ghost use Rattle.critical_paths.specs.declared.direction.Corner.TheVariants.{Lat
 ghost use Rattle.critical_paths.specs.Tick.{IsWithin, most_tick};
 ghost use Rattle.critical_paths.specs.Known.{Knows};
 ghost use Rattle.critical_paths.specs.Views.{Sees};
-ghost use Rattle.slack_rows.specs.Held.{GoesOn, IsBrokenByTwo, IsClose, IsCloseWindow, IsHeld, both_of, edge_at_pin, further_of, step_held, told_back, told_by_arrival};
+ghost use Rattle.slack_rows.specs.Arrived.{both_of, counts_launch, further_of};
+ghost use Rattle.slack_rows.specs.Held.{GoesOn, IsBrokenByTwo, IsClose, IsCloseWindow, IsHeld, edge_at_pin, step_held, told_back, told_by_arrival};
 ghost use Rattle.slack_rows.specs.Views.{ahead_of, spare_at};
 
 use crate::around::Around;
@@ -47,20 +48,53 @@ fn is_before(found: Arrival, tick: i64, edge: i64) -> bool
     requires ideal { IsWithin most_tick found.ideal }
     requires found { IsWithin most_tick found.tick }
     requires tick { IsWithin most_tick tick }
+    ensures { result ≡ int_lt (found.ideal +ℤ (tick -ℤ found.tick)) edge }
 {
     found.ideal + (tick - found.tick) < edge
 }
 
-/// Of an arrival and another one the one that is further, where it counts.
-fn further(corner: Corner, old: Option<Arrival>, new: Arrival) -> Option<Arrival>
-    requires old { IfSome old (λ a. IsWithin most_tick a.tick) }
-    requires new { IsWithin most_tick new.tick }
+/// An arrival at the tick of a region that is whole periods from it, where it is launched on the
+/// side of an edge that counts: before it, or by it and after it.
+fn arrival_at(
+    region: Region,
+    period: u16,
+    found: Arrival,
+    edge: i64,
+    corner: Corner,
+) -> Option<Arrival>
+    requires period { 0 < period }
+    requires first { IsWithin most_tick region.first }
+    requires last { IsWithin most_tick region.last }
+    requires ideal { IsWithin most_tick found.ideal }
+    requires tick { IsWithin most_tick found.tick }
     ensures near { IfSome result (λ a. IsWithin most_tick a.tick) }
-    ensures is { result ≡ further_of corner old new }
+    ensures within { IfSome result
+        (λ a. (region.first ≤ℤ a.tick) × (a.tick ≤ℤ region.last)) }
+    ensures side { IfSome result (λ a. counts_launch corner
+        (int_lt (found.ideal +ℤ (a.tick -ℤ found.tick)) edge) ≡ true) }
+    ensures edge { IfSome result (λ a. a.ideal ≡ found.ideal) }
 {
-    match old {
-        Some(other) if !corner.is_further(new.tick, other.tick) => old,
-        _ => Some(new),
+    let tick = tick_in(region, period, found.tick)?;
+    match (corner, is_before(found, tick, edge)) {
+        (Corner::Late, true) | (Corner::Early, false) => Some(Arrival { tick, ..found }),
+        (Corner::Late, false) | (Corner::Early, true) => None,
+    }
+}
+
+/// Of two arrivals the one that is further.
+fn further(corner: Corner, old: Option<Arrival>, new: Option<Arrival>) -> Option<Arrival>
+    ensures { result ≡ further_of corner old new }
+{
+    match (old, new) {
+        (_, None) => old,
+        (None, Some(_)) => new,
+        (Some(one), Some(other)) => {
+            if corner.is_further(other.tick, one.tick) {
+                new
+            } else {
+                old
+            }
+        }
     }
 }
 
@@ -81,6 +115,8 @@ fn arrival_in<W: CyclicWave<Item = Value>>(
     ensures paths { OnOk result (GoesOn view.now.circuit.now (waves_of view.now.waves.now)
         paths.old.nodes paths.new.nodes paths.new.met.entries) }
     ensures near { IfOk result (λ found. IfSome found (λ a. IsWithin most_tick a.tick)) }
+    ensures within { IfOk result (λ found. IfSome found
+        (λ a. (region.first ≤ℤ a.tick) × (a.tick ≤ℤ region.last))) }
 {
     let Some((from, to)) = find(view, paths, held, edge.0, corner)? else {
         return Ok(None);
@@ -89,11 +125,8 @@ fn arrival_in<W: CyclicWave<Item = Value>>(
     let mut best: Option<Arrival> = None;
     for number in from..to {
         let found = at_pin(view, held, paths.arrival(number), corner);
-        if let Some(tick) = tick_in(region, period, found.tick) {
-            if is_before(found, tick, edge.1) == (corner == Corner::Late) {
-                best = further(corner, best, Arrival { tick, ..found });
-            }
-        }
+        let counted = arrival_at(region, period, found, edge.1, corner);
+        best = further(corner, best, counted);
     }
     Ok(best)
 }

@@ -17,6 +17,7 @@ ghost use Rattle.slack_rows.specs.Views.{place_without};
 use crate::held::{Held, Watch, place_of};
 use crate::sides::about_all;
 use crate::slack::{Reason, Slacks};
+use crate::window::Extent;
 use critical_paths::{Direction, Paths, Slots, Test, View, slots_of};
 use fixpoint_engine::pin_wave;
 use flat_circuit::Pin;
@@ -105,7 +106,10 @@ pub fn still_slacks<W: CyclicWave<Item = Value>>(
     let moving = changes.regions.as_slice();
     let watch = Watch {
         edges,
-        limits: (1, 0),
+        extent: Extent {
+            before: 1,
+            after: 0,
+        },
         changes: moving,
         direction,
         held,

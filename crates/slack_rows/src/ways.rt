@@ -28,6 +28,14 @@ struct Least {
     reason: Reason,
 }
 
+/// A pin that is held, an edge that guards a window of it, and the end of its changes that counts.
+#[derive(Clone, Copy)]
+struct Sought {
+    held: Held,
+    edge: Guard,
+    corner: Corner,
+}
+
 /// Whether no other edge of the clock comes between a launch and this one.
 fn is_next(edges: &[Guard], period: u16, edge: Guard, launch: i64, corner: Corner) -> bool
     requires some { 0 < period }
@@ -73,13 +81,13 @@ fn edges<W: CyclicWave<Item = Value>>(
         paths.old.met.entries }
     requires held { IsHeld view.now.circuit.now held }
     requires edges { All (IsInPeriod (period_of view.now.circuit.now.header)) watch.edges.now }
-    requires limits { watch.limits.0 ≤ period_of view.now.circuit.now.header }
+    requires extent { watch.extent.before ≤ period_of view.now.circuit.now.header }
     ensures { OnOk result (GoesOn view.now.circuit.now (waves_of view.now.waves.now)
         paths.old.nodes paths.new.nodes paths.new.met.entries) }
 {
     let mut found = Guards::new(view.alloc);
     for edge in watch.edges {
-        let window = window_of(*edge, watch.limits, view.period());
+        let window = window_of(*edge, watch.extent, view.period());
         let ideal = edge_of(view, paths, held, window, corner)?;
         add_edge(&mut found, window, ideal)?;
     }
@@ -87,13 +95,14 @@ fn edges<W: CyclicWave<Item = Value>>(
 }
 
 /// The slack of an arrival at the data's pin against the edge that its launch is for.
-fn way(period: u16, held: Held, edge: Guard, arrival: Arrival, corner: Corner) -> Told
+fn way(period: u16, sought: Sought, arrival: Arrival) -> Told
     requires some { 0 < period }
     requires period { period ≤ 4096 }
     requires ideal { IsWithin (2 ^ 46) arrival.ideal }
     requires tick { IsWithin (2 ^ 46 + 65536) arrival.tick }
     ensures { is_starred (slack_by result.slack) ≡ true }
 {
+    let Sought { held, edge, corner } = sought;
     let later = moved_to(period, edge.ideal, arrival.ideal, corner);
     let tick = arrival.tick - later;
     let ticks = spare_at(corner, edge.window, tick);
@@ -103,11 +112,9 @@ fn way(period: u16, held: Held, edge: Guard, arrival: Arrival, corner: Corner) -
 /// With the slack of an arrival against an edge, if that is the one that its launch is for.
 fn with_arrival<W: CyclicWave<Item = Value>>(
     view: &View<W>,
-    held: Held,
     edges: &[Guard],
-    edge: Guard,
+    sought: Sought,
     arrival: Arrival,
-    corner: Corner,
     best: Option<Told>,
 ) -> Option<Told>
     requires sees { Sees view.now.circuit.now view.now.waves.now view.now.hazards.now }
@@ -117,9 +124,10 @@ fn with_arrival<W: CyclicWave<Item = Value>>(
     ensures { IfSome result (λ told. is_starred (slack_by told.slack) ≡ true) }
 {
     let period = view.period();
+    let Sought { held, edge, corner } = sought;
     let found = at_pin(view, held, arrival, corner);
     if is_next(edges, period, edge, found.ideal, corner) {
-        lesser(best, Some(way(period, held, edge, found, corner)))
+        lesser(best, Some(way(period, sought, found)))
     } else {
         best
     }
@@ -129,10 +137,8 @@ fn with_arrival<W: CyclicWave<Item = Value>>(
 fn with_edge<W: CyclicWave<Item = Value>>(
     view: &View<W>,
     paths: &mut Paths,
-    held: Held,
     edges: &[Guard],
-    edge: Guard,
-    corner: Corner,
+    sought: Sought,
     so_far: Least,
 ) -> Result<Least, NoMemory>
     requires sees { Sees view.now.circuit.now view.now.waves.now view.now.hazards.now }
@@ -144,22 +150,14 @@ fn with_edge<W: CyclicWave<Item = Value>>(
     ensures best { IfOk result (λ least. IfSome least.best
         (λ told. is_starred (slack_by told.slack) ≡ true)) }
 {
+    let Sought { held, edge, corner } = sought;
     let Some((from, to)) = find(view, paths, held, edge.net, corner)? else {
         return Ok(Least {
             reason: Reason::DataLoop,
             ..so_far
         });
     };
-    let best = best_of(
-        view,
-        paths,
-        held,
-        edges,
-        edge,
-        (from, to),
-        corner,
-        so_far.best,
-    );
+    let best = best_of(view, paths, edges, sought, (from, to), so_far.best);
     Ok(Least { best, ..so_far })
 }
 
@@ -167,11 +165,9 @@ fn with_edge<W: CyclicWave<Item = Value>>(
 fn best_of<W: CyclicWave<Item = Value>>(
     view: &View<W>,
     paths: &Paths,
-    held: Held,
     edges: &[Guard],
-    edge: Guard,
+    sought: Sought,
     numbers: (usize, usize),
-    corner: Corner,
     so_far: Option<Told>,
 ) -> Option<Told>
     requires sees { Sees view.now.circuit.now view.now.waves.now view.now.hazards.now }
@@ -183,7 +179,7 @@ fn best_of<W: CyclicWave<Item = Value>>(
     let mut best = so_far;
     for number in from..to {
         let arrival = paths.arrival(number);
-        best = with_arrival(view, held, edges, edge, arrival, corner, best);
+        best = with_arrival(view, edges, sought, arrival, best);
     }
     best
 }
@@ -202,7 +198,7 @@ fn side<W: CyclicWave<Item = Value>>(
         paths.old.met.entries }
     requires held { IsHeld view.now.circuit.now held }
     requires edges { All (IsInPeriod (period_of view.now.circuit.now.header)) watch.edges.now }
-    requires limits { watch.limits.0 ≤ period_of view.now.circuit.now.header }
+    requires extent { watch.extent.before ≤ period_of view.now.circuit.now.header }
     ensures paths { OnOk result (GoesOn view.now.circuit.now (waves_of view.now.waves.now)
         paths.old.nodes paths.new.nodes paths.new.met.entries) }
     ensures starred { IfOk result (λ told. is_starred (slack_by told.slack) ≡ true) }
@@ -213,7 +209,12 @@ fn side<W: CyclicWave<Item = Value>>(
         reason: Reason::Data,
     };
     for edge in edges.as_slice() {
-        least = with_edge(view, paths, held, edges.as_slice(), *edge, corner, least)?;
+        let sought = Sought {
+            held,
+            edge: *edge,
+            corner,
+        };
+        least = with_edge(view, paths, edges.as_slice(), sought, least)?;
     }
     Ok(match least.best {
         Some(told) => told,
@@ -233,7 +234,7 @@ pub fn by_ways<W: CyclicWave<Item = Value>>(
         paths.old.met.entries }
     requires held { IsHeld view.now.circuit.now held }
     requires edges { All (IsInPeriod (period_of view.now.circuit.now.header)) watch.edges.now }
-    requires limits { watch.limits.0 ≤ period_of view.now.circuit.now.header }
+    requires extent { watch.extent.before ≤ period_of view.now.circuit.now.header }
     ensures paths { OnOk result (GoesOn view.now.circuit.now (waves_of view.now.waves.now)
         paths.old.nodes paths.new.nodes paths.new.met.entries) }
     ensures level { IfOk result (λ found. found.level ≡ None) }

@@ -30,19 +30,35 @@ pub struct Window {
     pub to: i64,
 }
 
+/// How many ticks a window has before an edge, and how many after it.
+#[derive(Clone, Copy)]
+pub struct Extent {
+    pub before: u16,
+    pub after: u16,
+}
+
+impl Extent {
+    /// No ticks.
+    pub const NONE: Extent = Extent {
+        before: 0,
+        after: 0,
+    };
+}
+
 impl Window {
     /// The window from so many ticks before an edge, the first of which counts, to so many after
     /// it.
-    pub fn about(edge: Region, limits: (u16, u16)) -> Window
+    pub fn about(edge: Region, extent: Extent) -> Window
         requires first { IsWithin most_tick edge.first }
         requires last { IsWithin most_tick edge.last }
-        ensures { result ≡ window_about edge limits }
+        ensures { result ≡ window_about edge extent }
     {
+        let Extent { before, after } = extent;
         Window {
             first: edge.first,
             last: edge.last,
-            from: edge.first - i64::from(limits.0) + 1,
-            to: edge.last + i64::from(limits.1),
+            from: edge.first - i64::from(before) + 1,
+            to: edge.last + i64::from(after),
         }
     }
 }

@@ -5,9 +5,9 @@ use Rattle.slack_report.proofs.counts.has_row.Goals as goal
 pub returns : goal.returns
 returns c = λ circuit cases q are at sure.
     c.has_own.ensures
-    ∙ ap (λ (b : Bool). b && not c.is_told.result) c.can_break.ensures
-    ∙ row_is circuit cases c.args.rows.now c.args.place q c.in-Some.least.now c.is_told.result are at
-    (sym c.in-Some.ensures) (c.is_told.ensures.told circuit cases q are.known at sure)
+    ∙ ap (λ (b : Bool). b && not c.is_reported.result) c.can_break.ensures
+    ∙ row_is circuit cases c.args.rows.now c.args.place q c.in-Some.least.now c.is_reported.result are at
+    (sym c.in-Some.ensures) (c.is_reported.ensures.told circuit cases q are.known at sure)
 
 pub returns-in_default : goal.returns-in_default
 returns-in_default c = λ circuit cases q are at sure.

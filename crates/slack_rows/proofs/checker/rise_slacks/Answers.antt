@@ -43,7 +43,7 @@ returns-clause-told g c =
     let rises = events Rise (read cells) in
     let one = c.requires.some in
     let most = c.requires.short in
-    let short : limits.0 ≤ p = omega (arith, most) in
+    let short : limits.before ≤ p = omega (arith, most) in
     let edges_are : c.as_slice-regions.result.now ≡ map ticks_of_region (regions p rises) =
     c.as_slice-regions.ensures ∙ c.in_ok-edges.ensures.are.regions
     ∙ ap (λ (ev : Events). map ticks_of_region (regions p ev)) (may_are Rise cells) in

@@ -45,7 +45,7 @@ returns-clause-told g c =
     let least = c.period-period.ensures.shortest in
     let long : 2 ≤ p = omega (arith, least, c.period-period.ensures.is) in
     let most = c.requires.short in
-    let short : limits.0 ≤ p = omega (arith, most) in
+    let short : limits.before ≤ p = omega (arith, most) in
     let edges_are : c.as_slice-regions.result.now ≡ map ticks_of_region (spans p clock) =
     c.as_slice-regions.ensures ∙ c.in_ok-spans.ensures ∙ ap (λ (n : ℕ). map ticks_of_region (spans n clock)) c.requires.clock in
     let windows = windows_about p c.edge_limits.result c.as_slice-regions.result.now in

@@ -14,8 +14,8 @@ invariant-loop-edge g l =
       goes : GoesOn l.view.circuit.now (waves_of l.view.waves.now) l.fn.paths.nodes l.paths.nodes l.paths.met.entries;
       level : l.all.level ≡ None;
       told : (ev : Events) → AreChanges (period l.view.circuit.now.header) ev l.watch.changes.now →
-          AllByRecursion (IsPlaced (period l.view.circuit.now.header)) (windows_about (period l.view.circuit.now.header) l.watch.limits l.watch.edges.now) →
+          AllByRecursion (IsPlaced (period l.view.circuit.now.header)) (windows_about (period l.view.circuit.now.header) l.watch.extent l.watch.edges.now) →
           TellWindows (period l.view.circuit.now.header) ev (launches_of l.view.circuit.now (waves_of l.view.waves.now) l.watch.held)
           (two_of l.view.circuit.now (waves_of l.view.waves.now) l.watch.held) (place_in l.watch.held) l.watch.direction
-          (windows_about (period l.view.circuit.now.header) l.watch.limits (take l.edge-index l.watch.edges.now)) l.all;
+          (windows_about (period l.view.circuit.now.header) l.watch.extent (take l.edge-index l.watch.edges.now)) l.all;
     }

@@ -7,4 +7,4 @@ use Rattle.slack_rows.proofs.sides.window_of.Goals as goal
 pub returns-clause-close : goal.returns-clause-close
 returns-clause-close c =
     subst (λ (w : Window). IsCloseWindow c.args.period w) (sym c.about.ensures)
-    (window_close c.args.period c.args.limits c.args.edge c.requires.period c.requires.limits (omega arith) c.requires.edge)
+    (window_close c.args.period c.args.extent c.args.edge c.requires.period c.requires.extent (omega arith) c.requires.edge)

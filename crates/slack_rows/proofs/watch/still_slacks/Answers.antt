@@ -14,7 +14,7 @@ use Rattle.slack_rows.specs.Held.{AreChanges, AreSlots, launches_of, place_in, t
 use Rattle.slack_rows.specs.Laws.{IsPlaced}
 use Rattle.slack_rows.specs.Slack.{NoNumber, Nowhere, told_alone, told_of}
 use Rattle.slack_rows.specs.Views.{told_by_found, told_none}
-use Rattle.slack_rows.specs.Window.{about}
+use Rattle.slack_rows.specs.Window.{about, extent_of}
 use Rattle.slack_rows.proofs.Checkers.{all_placed}
 use Rattle.slack_rows.proofs.Parting.{no_first_way, no_last_way, none_parts, parts_always, parts_free, parts_never, parts_unmet, parts_windows, some_parts}
 use Rattle.slack_rows.proofs.Watching.{changes_are, nothing_here, some_where_all, something_here, windows_are}
@@ -127,13 +127,13 @@ returns-clause-told g c =
     let changes = c.args.changes.now in
     λ ev quiet cyclic still are are_quiet.
     let edges_are = c.as_slice-edges.ensures ∙ are_quiet.regions in
-    let windows = windows_about p (1, 0) c.as_slice-edges.result.now in
-    let are_windows : windows ≡ map (about p (1, 0)) (regions p quiet) =
-    ap (windows_about p (1, 0)) edges_are ∙ windows_are p (1, 0) (regions p quiet) (omega (arith, long)) in
+    let windows = windows_about p (extent_of 1 0) c.as_slice-edges.result.now in
+    let are_windows : windows ≡ map (about p (extent_of 1 0)) (regions p quiet) =
+    ap (windows_about p (extent_of 1 0)) edges_are ∙ windows_are p (extent_of 1 0) (regions p quiet) (omega (arith, long)) in
     parts_windows p long ev quiet cyclic still (launches_of circuit ws held) (two_of circuit ws held) (place_in held) d
     c.in_ok-found.found (no_last_way circuit ws held) (no_first_way circuit ws held) windows are_windows
     (sym are_quiet.all ∙ c.if-still.false)
     (some_of p ev changes long cyclic are (sym c.are_none-is_free.ensures ∙ c.if-is_free.false)) (sym are.all ∙ c.if-changes.false)
     (c.in_ok-found.ensures.told ev
     (subst (AreChanges p ev) (sym c.as_slice-moving.ensures) (changes_are p ev changes cyclic are c.if-changes.false))
-    (subst (AllByRecursion (IsPlaced p)) (sym are_windows) (all_placed p quiet (1, 0) (omega arith) (omega (arith, long)))))
+    (subst (AllByRecursion (IsPlaced p)) (sym are_windows) (all_placed p quiet (extent_of 1 0) (omega arith) (omega (arith, long)))))

@@ -3,7 +3,7 @@ use Rattle.slack_rows.specs.Rows.{are_one_region, have_no_number, is_same_pin}
 use Rattle.slack_rows.specs.Slack.{is_broken}
 use Rattle.slack_rows.specs.Views.{told_by_found}
 use Rattle.slack_rows.proofs.Merged.{chain_off, chain_on}
-use Rattle.slack_rows.proofs.table.are_told_once.Goals as goal
+use Rattle.slack_rows.proofs.table.are_reported_once.Goals as goal
 
 pub returns-then-not-are_broken-clause-told : goal.returns-then-not-are_broken-clause-told
 returns-then-not-are_broken-clause-told c = λ p near near_after.

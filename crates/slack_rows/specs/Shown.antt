@@ -1,0 +1,73 @@
+-- Which paths a slack comes from: at which ticks they show, and which end of a region each of them
+-- explains.
+use Rattle.std.specs.Prelude.{◌≡◌, ℤ, pos, ◌+ℤ◌, Bool, true, false, List, IfSome, Option, Some, None}
+use Rattle.critical_paths.specs.declared.direction.Corner.{Corner}
+use Rattle.critical_paths.specs.declared.direction.Corner.TheVariants.{Late as LateCorner, Early as EarlyCorner}
+use Rattle.critical_paths.specs.declared.path.At.{At}
+use Rattle.critical_paths.specs.declared.path.Node.{Node}
+use Rattle.critical_paths.specs.Event.{other_corner}
+use Rattle.critical_paths.specs.Known.{corner_in}
+use Rattle.slack_rows.specs.declared.parameter.Subject.{Subject}
+use Rattle.slack_rows.specs.declared.parameter.Subject.TheVariants.{Instance as OfInstance, Net as OfNet}
+use Rattle.slack_rows.specs.declared.parameter.Word.{Word as Limit}
+use Rattle.slack_rows.specs.declared.slack.By.{By}
+use Rattle.slack_rows.specs.declared.slack.By.TheVariants.{Region as ByRegion, Way as ByWay, Quiet, Pulse, Swallowed, Repeated, Nothing}
+use Rattle.slack_rows.specs.declared.slack.Told.{Told as Found}
+use Rattle.slack_rows.specs.declared.window.Window.{Window as Ticks}
+use Rattle.slack_rows.specs.Views.{corner_of, is_of_width}
+
+-- ---- at which ticks
+
+-- the tick of the edge that data is held against
+abbrev pub edge_tick : Corner → Ticks → ℤ
+edge_tick LateCorner w = w.first
+edge_tick EarlyCorner w = w.last
+
+abbrev pub ShowsAt : ℤ → Option At → Type 0
+ShowsAt tick None = Unit {0}
+ShowsAt tick (Some at) = at.tick +ℤ pos at.wire ≡ tick
+
+-- Of an instance: the data at its change and the clock at its edge, or the begin and the end of a
+-- pulse. A net has no clock.
+abbrev pub data_tick : Bool → Found → ℤ
+data_tick true found = found.window.first
+data_tick false found = found.tick
+
+abbrev pub clock_tick : Bool → Corner → Found → ℤ
+clock_tick true corner found = found.window.last
+clock_tick false corner found = edge_tick corner found.window
+
+abbrev pub ShowAt : Subject → Limit → Found → Option At → Option At → Type 0
+ShowAt (OfInstance number) word found changes clock =
+    (ShowsAt (data_tick (is_of_width word) found) changes)
+    × (ShowsAt (clock_tick (is_of_width word) (corner_of word) found) clock)
+ShowAt (OfNet number) word found changes clock =
+    (IfSome changes (λ at. at.tick ≡ found.tick)) × (clock ≡ None)
+
+-- ---- which end they explain
+
+abbrev pub Explains : List Node → Corner → Option At → Type 0
+Explains nodes corner None = Unit {0}
+Explains nodes corner (Some at) = corner_in nodes at ≡ Some corner
+
+-- A pulse begins late and ends early. A clock is at the other corner than the data.
+abbrev pub ExplainEnds : Bool → Corner → List Node → Option At → Option At → Type 0
+ExplainEnds true corner nodes begin end =
+    Explains nodes LateCorner begin × Explains nodes EarlyCorner end
+ExplainEnds false corner nodes changes clock = Explains nodes (other_corner corner) clock
+
+abbrev pub ExplainAt : Subject → Limit → List Node → Option At → Option At → Type 0
+ExplainAt (OfInstance number) word nodes changes clock =
+    ExplainEnds (is_of_width word) (corner_of word) nodes changes clock
+ExplainAt (OfNet number) word nodes changes clock = Explains nodes (corner_of word) changes
+
+-- ---- which slacks have paths
+
+abbrev pub is_by_paths : By → Bool
+is_by_paths (ByRegion region) = true
+is_by_paths (ByWay node) = true
+is_by_paths Pulse = true
+is_by_paths Swallowed = true
+is_by_paths Quiet = false
+is_by_paths Repeated = false
+is_by_paths Nothing = false
