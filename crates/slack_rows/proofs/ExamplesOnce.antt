@@ -7,14 +7,14 @@ use Rattle.slack_rows.specs.Launched.{side_by}
 use Rattle.slack_rows.specs.Limit.{is_by_arrivals}
 use Rattle.slack_rows.specs.Rows.{are_one_region, reported_once}
 use Rattle.slack_rows.specs.Slack.{Launches, Nowhere, At, Arrived, Slack, Free, Ticks, Way, NoNumber, Told, Watch, told_after, told_before}
-use Rattle.slack_rows.specs.Window.{Window, Late, Early, Either, about}
+use Rattle.slack_rows.specs.Window.{Window, Late, Early, Either, about, extent_of}
 use Rattle.slack_rows.proofs.Examples.{marked}
 
 -- ---- one region before an edge and after one
 
 -- windows of setup 2 and hold 1 about edges at 4 and at 9 of sixteen slots
 abbrev at_edge : ℕ → Window
-at_edge t = about 16 (2, 1) (record { first = t; last = t })
+at_edge t = about 16 (extent_of 2 1) (record { first = t; last = t })
 
 abbrev ticks : ℕ → ℕ → Region
 ticks first last = record { first = first; last = last }

@@ -110,8 +110,8 @@ returns-then-changes-clause-told g c =
     (ap length are_quiet.regions ∙ ap (λ (rs : List Region). length (map ticks_of_region rs)) none))
     (sym are.all ∙ c.if-changes.true) record { is = told_is; near = tt } c.none.ensures
 
-pub about_all-requires-clause-limits : goal.about_all-requires-clause-limits
-about_all-requires-clause-limits g c =
+pub about_all-requires-clause-extent : goal.about_all-requires-clause-extent
+about_all-requires-clause-extent g c =
     let least = c.period-period.ensures.shortest in
     omega (arith, least, c.period-period.ensures.is)
 
