@@ -17,15 +17,15 @@ fn can_break(least: Option<Least>) -> bool
     least.is_some()
 }
 
-/// Whether a limit has a row, by whether something can break it and the one before it tells it.
+/// Whether a limit has a row, by whether something can break it and it is reported with another.
 fn has_own(can_break: bool, is_reported: bool) -> bool
     ensures { result ≡ (can_break && not is_reported) }
 {
     can_break && !is_reported
 }
 
-/// Whether the limit at a place has a row: something can break it, and it is not told with the one
-/// before it.
+/// Whether the limit at a place has a row: something can break it, and it is not reported with the
+/// one before it.
 pub fn has_row(rows: &Rows, place: usize) -> bool
     requires { place < length rows.now.parameters }
     ensures { (c : Circuit) (cases : List Case) (q : Parameter) → AreRows c cases rows.now →

@@ -224,12 +224,12 @@ impl<'a> Sheet<'a> {
         }
     }
 
-    /// Whether the limit at a place is told with the one before it.
+    /// Whether the limit at a place is reported with the one before it.
     pub fn is_reported(self, place: usize) -> bool {
         place < self.rows.parameters.len() && self.rows.is_reported(place)
     }
 
-    /// The slack of the limit after it, if that is told with it.
+    /// The slack of the limit after it, if that is reported with it.
     fn after(self, place: usize) -> Option<Least> {
         let next = place.checked_add(1)?;
         if self.is_reported(next) {

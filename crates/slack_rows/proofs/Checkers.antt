@@ -1,5 +1,5 @@
 -- A checker at the edges of a clock has a fault exactly where its setup or its hold slack is broken.
-use Rattle.std.proofs.Common.{inl, inr, ◌≡◌, ◌⊎◌, ◌↔◌, ℕ, zero, suc, ◌+◌, ◌-◌, ◌<◌, ◌≤◌, Bool, true, false, ◌&&◌, cond, refl, sym, ap, subst, ◌∙◌, arith, List, [], ◌∷◌, length, map, Option, Some, None}
+use Rattle.std.proofs.Common.{inl, inr, ◌≡◌, ◌⊎◌, ◌↔◌, ℕ, zero, suc, ◌+◌, ◌<◌, ◌≤◌, Bool, true, false, ◌&&◌, cond, refl, sym, ap, subst, ◌∙◌, arith, List, [], ◌∷◌, length, map, Option, Some, None}
 use Rattle.std.specs.Prelude.{◌==◌, pos, int_lt, filter, is_some, slice_get, unwrap_or}
 use Rattle.std.specs.List.{AllByRecursion, range_with_len}
 use Rattle.std.proofs.lemmas.Bool.{and_parts, eqb-true}
@@ -36,7 +36,7 @@ use Rattle.critical_paths.proofs.Searches.{first_is}
 use Rattle.slack_rows.specs.declared.window.Extent.{Extent}
 use Rattle.slack_rows.specs.declared.parameter.Word.{Word as Limit}
 use Rattle.slack_rows.specs.declared.parameter.Word.TheVariants.{Setup, Hold}
-use Rattle.slack_rows.specs.Slack.{Free, Launches, Told, is_broken, least, told_after, told_alone, told_before}
+use Rattle.slack_rows.specs.Slack.{Free, Launches, Told, is_broken, told_after, told_alone, told_before}
 use Rattle.slack_rows.specs.Window.{about}
 use Rattle.slack_rows.specs.Watch.{rise_watch, span_watch}
 use Rattle.slack_rows.specs.Launched.{checker_launches}

@@ -1,5 +1,5 @@
 -- What repeats each period, and the slots of places in a window.
-use Rattle.std.proofs.Common.{◌≡◌, ℕ, zero, suc, ◌+◌, ◌-◌, ◌*◌, ◌/◌, ◌%◌, ◌<◌, sym, ap, ◌∙◌, arith}
+use Rattle.std.proofs.Common.{◌≡◌, ℕ, zero, suc, ◌+◌, ◌*◌, ◌/◌, ◌%◌, ◌<◌, sym, ap, ◌∙◌, arith}
 use Rattle.std.proofs.Math.Nat.{add-mul-mod_self_right, mod-add-div'}
 use Rattle.scald_base.specs.Clock.{back}
 use Rattle.scald_base.proofs.Back.{back_later, back_mod, back_zero}

@@ -1,5 +1,5 @@
 -- A marked gate has a hazard exactly where one of its slacks is broken.
-use Rattle.std.proofs.Common.{◌≡◌, ℕ, ◌-◌, ◌<◌, Bool, true, false, not, cond, refl, sym, ap, ◌∙◌, arith, List, [], length, Option, Some, None}
+use Rattle.std.proofs.Common.{◌≡◌, ℕ, ◌<◌, Bool, true, false, not, cond, refl, sym, ap, ◌∙◌, arith, List, [], length, Option, Some, None}
 use Rattle.std.specs.Prelude.{◌==◌, is_none, is_some}
 use Rattle.std.specs.Option.{option_map}
 use Rattle.std.proofs.lemmas.Bool.{and_from, and_parts, not-true}
@@ -15,7 +15,6 @@ use Rattle.gate_eval.specs.Meeting.{folds_in, period_of}
 use Rattle.gate_eval.specs.Hold.{disturber, hazard, hazard_beside, is_closed, mover_beside, moves_beside, value_of_pin}
 use Rattle.gate_eval.proofs.Found.{first_some_some}
 use Rattle.point_check.proofs.Firsts.{first_some_is}
-use Rattle.critical_paths.specs.Event.{moves}
 
 -- ---- constants do not change
 

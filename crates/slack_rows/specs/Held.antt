@@ -1,6 +1,6 @@
 -- What launches say of what the program holds against something: of a pin against the steps of
 -- another one.
-use Rattle.std.specs.Prelude.{◌≡◌, ℕ, zero, suc, ◌+◌, ◌*◌, ◌<◌, ◌≤◌, ◌^◌, not, ◌&&◌, ◌||◌, ℤ, pos, ◌+ℤ◌, ◌-ℤ◌, ◌≤ℤ◌, int_lt, Bool, true, false, List, [], ◌∷◌, ◌++◌, filter, length, map, if◌then◌else◌, Option, Some, None}
+use Rattle.std.specs.Prelude.{◌≡◌, ℕ, zero, suc, ◌*◌, ◌<◌, ◌≤◌, ◌^◌, not, ◌&&◌, ◌||◌, ℤ, pos, ◌+ℤ◌, ◌-ℤ◌, ◌≤ℤ◌, int_lt, Bool, true, false, List, [], ◌∷◌, ◌++◌, filter, length, map, if◌then◌else◌, Option, Some, None}
 use Rattle.std.specs.List.{All, list_any}
 use Rattle.std.specs.Option.{option_or}
 use Rattle.scald_base.specs.Clock.{back}
@@ -37,7 +37,7 @@ use Rattle.slack_rows.specs.declared.slack.Told.{Told as Found}
 use Rattle.slack_rows.specs.declared.slack.Slacks.{Slacks}
 use Rattle.slack_rows.specs.declared.window.Window.{Window as Ticks}
 use Rattle.slack_rows.specs.declared.window.Extent.{Extent}
-use Rattle.slack_rows.specs.Window.{Side, Either, Window, about, counts_after, counts_before, meets, met, extent_of}
+use Rattle.slack_rows.specs.Window.{Side, Either, Window, about, counts_after, counts_before, meets, extent_of}
 use Rattle.slack_rows.specs.Slack.{Launches, Slack, Told, Watch, after_window, is_broken, is_free, before_window, is_open, least, no_launches, told_after, told_before, told_of, two_in}
 use Rattle.slack_rows.specs.Limit.{beside_by_arrivals, in_windows, is_beside, told_never, told_pin}
 use Rattle.slack_rows.specs.declared.parameter.Word.TheVariants.{Gate, Before as GateBefore, After as GateAfter}

@@ -1,5 +1,5 @@
 -- Slack of widths: how narrow a pulse may be, read off the wave as it is.
-use Rattle.std.specs.Prelude.{ℕ, ◌+◌, ◌-◌, ◌==◌, nat_lt, Bool, true, false, not, ◌&&◌, List, [], ◌∷◌, filter_map, ℤ, pos, ◌-ℤ◌, int_le, if◌then◌else◌, Option, Some, None}
+use Rattle.std.specs.Prelude.{ℕ, ◌+◌, ◌==◌, nat_lt, Bool, true, false, not, ◌&&◌, List, [], ◌∷◌, filter_map, ℤ, pos, ◌-ℤ◌, int_le, if◌then◌else◌, Option, Some, None}
 use Rattle.std.specs.List.{list_any, range_with_len}
 use Rattle.scald_base.specs.Time.{period}
 use Rattle.vector_names.specs.declared.bits.Target.{Target}
