@@ -61,6 +61,13 @@ rows slack broken_first 1 '  39*  HOLD 5    c1<0>     6' '   10  HIGH 190  w1<0>
 rows slack latch 1 '   20  SETUP 20  c2<0>     6' 'BROKEN 1'
 rows slack loop 1 ' none  SETUP 20  c1<0>     5' 'BROKEN 1'
 rows slack two 1 '  -40  SETUP 40  c1<0>     7' '   19  HOLD 5    c1<0>     7' 'BROKEN 1'
+# a region about two edges, the second of them in the next period, is too late for the first and too early after the
+# second: one row
+rows slack over_end 1 ' -220  SETUP 20  c1<0>     4' 'BROKEN 1'
+rows explain over_end 1 \
+    '   may change until 300 - 20 = 280, changes at 500: 220 too late' \
+    '   the change lies on both sides of the edge: earlier by 220 or later by 211 would do' \
+    'BROKEN 1'
 # bits with one sum are one row if one register of the drawing launches their data, and not if two do; nor are those of
 # two uses of a macro
 rows slack registers 0 \

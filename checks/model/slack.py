@@ -831,13 +831,16 @@ def lower(circuit, cases):
 
 
 def is_one_region(before, after):
-    """One region of changes at one place of the ticks, which is too late for an edge and too early after it or after a
-    later one: it would do earlier or later."""
+    """One region of changes, whichever the periods in which it is counted, which is too late for an edge and too early
+    after it or after a later one: it would do earlier or later."""
     one, other = before.least, after.least
+    if not (is_broken(one) and is_broken(other) and one.view is other.view and one.region and other.region):
+        return False
+    later = one.region[0] - other.region[0]
     return (
-        is_broken(one) and is_broken(other) and one.view is other.view
-        and (one.pin, one.change) == (other.pin, other.change)
-        and one.region is not None and one.region == other.region and one.window[0] <= other.window[0]
+        (one.pin, one.change) == (other.pin, other.change)
+        and later % one.view.period == 0 and one.region[1] - other.region[1] == later
+        and one.window[0] <= other.window[0] + later
     )
 
 

@@ -40,9 +40,10 @@ fault_total c cases = sum_by (λ (case : Case). length (faults_of c case.waves))
 -- These are the least slacks of the circuit's limits over these cases, whose waves are of its nets.
 pub record AreRows (c : Circuit) (cases : List Case) (rows : Rows) : Type 0 where
   pub known : AreKnown c cases rows.parameters rows.least rows.cases rows.sets.keys
+  pub same_period : rows.period ≡ period c.header
   pub are_waves : AllByRecursion (λ (case : Case). AreWaves c case.waves) cases
 
--- something can break the limit, and the row before does not tell it
+-- something can break the limit, and it is not in the row before
 abbrev pub has_row : Circuit → List Case → Parameter → Bool
 has_row c cases q =
     not (is_free (slack_of (row c cases q.subject q.word)))
@@ -53,7 +54,7 @@ has_row c cases q =
 unfoldable pub first_line : Circuit → List ℕ
 first_line c = line (codes "SLACK PERIOD " ∷ decimal (period c.header) ∷ [])
 
--- how many limits nothing can break, under the table, where there are some
+-- how many limits nothing can break, under the table, if there are some
 abbrev pub free_lines : Part → ℕ → List ℕ
 free_lines Table free =
     if free == 0 then []
@@ -71,16 +72,16 @@ last_lines part free broken limits = free_lines part free ++ line [] ++ count_li
 
 -- ---- the reply
 
--- A number of limits that is 0 exactly where no limit is broken, which is where no case has a
--- fault. Where no limit is told by arrivals, it is that of the broken ones that have a row of their
+-- A number of limits that is 0 exactly if no limit is broken, that is, if no case has a
+-- fault. If no slack goes by arrivals, it is that of the broken ones that have a row of their
 -- own.
 pub record AreBroken (c : Circuit) (cases : List Case) (count : ℕ) : Type 0 where
   pub none : (count == 0) ≡ not (some_broken c cases)
   pub faultless : (count == 0) ≡ (fault_total c cases == 0)
   pub exact : are_sure c cases ≡ true → count ≡ broken_count c cases
 
--- The outcome and the last line are by how many limits are broken; where none is, the last line has
--- how many have a row of their own, which is exact where no limit is told by arrivals. The table
+-- The outcome and the last line are by how many limits are broken; if none is, the last line has
+-- how many have a row of their own, which is exact if no slack goes by arrivals. The table
 -- ends with how many nothing can break. The lines between the first one and those are any.
 pub record AreSlacksOf (part : Part) (c : Circuit) (cases : List Case) (o : Outcome)
     (bytes : List ℕ) : Type 0 where

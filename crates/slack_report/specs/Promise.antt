@@ -22,7 +22,7 @@ pub record AsksWell (words : List (List ℕ)) (text : List ℕ) : Type 0 where
   pub short : length text ≤ most_bytes
   pub settles : TextSettles request.rounds text
 
--- It ends by how many limits are broken, which is none exactly where `verify` finds no fault, or
+-- It ends by how many limits are broken, which is none exactly if `verify` finds no fault, or
 -- for want of memory.
 pub record IsVerdict (c : Circuit) (cases : List Settled) (o : Outcome) : Type 0 where
   pub count : ℕ

@@ -33,7 +33,7 @@ with_rounds part worst place None others = Err place
 with_rounds part worst place (Some n) others =
     alone (request part worst (Some n)) (place + 1) others
 
--- the words from this number on, where it is known how many rows are asked for
+-- the words from this number on, if it is known how many rows are asked for
 abbrev pub after_worst : Part → Option ℕ → ℕ → List (List ℕ) → Result Request ℕ
 after_worst part worst place [] = Ok (request part worst None)
 after_worst part worst place (w ∷ ws) = with_rounds part worst place (rounds_of w) ws

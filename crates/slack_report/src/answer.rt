@@ -29,7 +29,7 @@ pub fn add_first(out: &mut Bytes, c: &Circuit) -> Result<(), NoMemory>
     )
 }
 
-/// Under a table, how many limits nothing can break, where there are some.
+/// Under a table, how many limits nothing can break, if there are some.
 fn add_free(out: &mut Bytes, part: Part, free: usize) -> Result<(), NoMemory>
     ensures { OnOk result (out.new ≡ out.old ++ free_lines part free) }
 {

@@ -27,7 +27,7 @@ fn paragraphs_of(sheet: Sheet, drawing: &Drawing, worst: Option<u32>) -> Result<
     page.done()
 }
 
-/// The table of a circuit's slacks, with at least so many rows where there are.
+/// The table of a circuit's slacks, with at least so many rows if there are.
 pub fn table(
     alloc: Global,
     circuit: &Circuit,
@@ -45,7 +45,7 @@ pub fn table(
     table_of(sheet, worst)
 }
 
-/// The paragraphs on a circuit's slacks, of so many rows where that is asked for.
+/// The paragraphs on a circuit's slacks, of so many rows if that is asked for.
 pub fn paragraphs(
     alloc: Global,
     circuit: &Circuit,

@@ -129,7 +129,8 @@ fn known_header(c: &Circuit)
 pub fn no_rows(alloc: Global, circuit: &Circuit) -> Result<Rows, NoMemory>
     ensures { IfOk result (λ rows. AreRows circuit.now [] rows) }
 {
-    Rows::new(alloc, circuit)
+    let rows = Rows::new(alloc, circuit)?;
+    Ok(rows)
 }
 
 /// One case more, of this number.
@@ -156,7 +157,8 @@ pub fn add_case<W: CyclicWave<Item = Value>>(
         waves,
         hazards: &hazards,
     };
-    rows.add_case(number, &view)
+    rows.add_case(number, &view)?;
+    Ok(())
 }
 
 /// Puts the whole answer at the end: the first line, those that are given, and the last ones.

@@ -31,7 +31,7 @@ struct Shapes {
     known: List<usize>,
 }
 
-/// Adds the limits that something can break and that are not told before.
+/// Adds the limits that something can break and that are in no row yet.
 fn add_entries(sheet: Sheet, entries: &mut Vec<Entry>) -> Result<(), NoMemory> {
     for place in 0..sheet.rows.parameters.len() {
         if let Some(limit) = sheet.limit(place) {

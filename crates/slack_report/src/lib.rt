@@ -8,7 +8,7 @@
 //! `critical_paths`.
 #![tactic(auto)]
 
-// what is told of, and in which words
+// what is reported, and in which words
 mod page;
 mod sheet;
 mod words;

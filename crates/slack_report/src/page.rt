@@ -1,5 +1,5 @@
-//! Text that is put together piece by piece. What finds no memory is remembered, and told once at
-//! the end.
+//! Text that is put together piece by piece. What finds no memory is remembered, and returned once
+//! at the end.
 
 use itoa::Buffer;
 use scald_base::{Bytes, NoMemory};

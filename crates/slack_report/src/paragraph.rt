@@ -1,4 +1,4 @@
-//! What is told of a row: the paths, the sum, the launch, and what is counted twice.
+//! The paragraph of a row: the paths, the sum, the launch, and what is counted twice.
 
 use crate::groups::Row;
 use crate::page::{Page, number_of};
@@ -154,7 +154,7 @@ fn put_either(page: &mut Page, before: Least, after: Least) {
     page.fill(text, &amounts);
 }
 
-/// Puts what is told of a limit beside its sum.
+/// Puts what stands beside the sum of a limit.
 fn put_beside(page: &mut Page, sheet: Sheet, of: Limit, data: At) {
     let least = of.least;
     let slack = least.told.slack;
@@ -174,7 +174,7 @@ fn put_beside(page: &mut Page, sheet: Sheet, of: Limit, data: At) {
     }
 }
 
-/// Puts the paths of a limit that is no width, and what is told of them.
+/// Puts the paths of a limit that is no width, and what they come to.
 fn put_paths(page: &mut Page, sheet: Sheet, drawing: &Drawing, of: Limit, data: At) {
     let moved = moved_by(sheet, data, of.least.clock);
     let lines = Lines {

@@ -16,7 +16,7 @@ const MOST: usize = 5;
 /// How many kinds of limits there are.
 const KINDS: usize = 6;
 
-/// The kind of a limit: of each one has a paragraph where all limits are met.
+/// The kind of a limit: of each one has a paragraph if all limits are met.
 fn kind_of(word: Word) -> usize
     ensures { result < 6 }
 {

@@ -47,7 +47,7 @@ fn ticks_of(passage: Option<Passage>) -> Option<i64> {
     }
 }
 
-/// Whether a step is told by the one before it, which cuts it short.
+/// Whether a step is in the line of the one before it, which cuts it short.
 fn is_cut(step: Step, is_first: bool) -> bool {
     !is_first && matches!(step.passage, Some(Passage::Cut(_)))
 }
@@ -108,7 +108,7 @@ fn put_element(page: &mut Page, sheet: Sheet, number: u32, element: &Instance) {
     page.fill(b"] line #", &[i64::from(element.place.line)]);
 }
 
-/// Puts how a link's tick comes, where that is more than by the bounds.
+/// Puts how a link's tick comes, if that is more than by the bounds.
 fn put_word(page: &mut Page, sheet: Sheet, element: &Instance, pin: u16, word: Word) {
     match word {
         Word::Tight => {}
@@ -252,7 +252,7 @@ fn put_link(page: &mut Page, lines: Lines, path: At, line: Line) {
     page.put(b"\n");
 }
 
-/// Puts the line of a step, if it is not told by the one that cuts it.
+/// Puts the line of a step, if it is not in that of the one that cuts it.
 fn put_step(page: &mut Page, lines: Lines, path: At, steps: &[Step], place: usize, width: usize)
     requires { place < length steps.now }
 {

@@ -11,7 +11,7 @@ ghost use Rattle.slack_report.specs.Promise.{EndsByLimits, NeverBreaksIfMet, Set
 
 use crate::reporter::{Paragraphs, Table};
 use crate::request::{Part, Request, read_request};
-use program_call::{Program, Reply, main_call, reply_to};
+use program_call::{Omissions, Program, Reply, main_call, reply_to};
 use run_wave::RunWave;
 use scald_base::{CallEnd, NoMemory, Outcome, Sink, Source, Words};
 use std::alloc::Global;
@@ -54,7 +54,7 @@ impl Program for SlackProgram {
         alloc: Global,
         request: Request,
         text: &[u8],
-        undriven: &mut u32,
+        omissions: &mut Omissions,
     ) -> Result<Reply<Outcome>, NoMemory> {
         let Request {
             part,
@@ -62,9 +62,9 @@ impl Program for SlackProgram {
             rounds,
         } = request;
         match part {
-            Part::Table => reply_to::<Table, RunWave<Value>>(alloc, text, worst, rounds, undriven),
+            Part::Table => reply_to::<Table, RunWave<Value>>(alloc, text, worst, rounds, omissions),
             Part::Paragraphs => {
-                reply_to::<Paragraphs, RunWave<Value>>(alloc, text, worst, rounds, undriven)
+                reply_to::<Paragraphs, RunWave<Value>>(alloc, text, worst, rounds, omissions)
             }
         }
     }
@@ -81,7 +81,7 @@ impl Program for SlackProgram {
 /// `worst=N` asks for at least N rows of the table, or for the paragraphs of the first N;
 /// `rounds=N` sets the limit of rounds.
 ///
-/// `Clean` comes where all limits are met, which is where `verify` finds no fault, and else
+/// `Clean` comes if all limits are met, that is, if `verify` finds no fault, and else
 /// `Faulty` with the number of those that are broken. Why a drawing is refused, or which net does
 /// not settle, is written as `verify` has it. All of the answer is made before the first byte of it
 /// is written.
@@ -95,8 +95,8 @@ pub fn slack_main<S: Source, K: Sink>(
     ensures call { IsCall slack_program NeverBreaksIfMet words.now result
         (devices S.left S.faults K.taken K.faults) source.old source.new sink.old sink.new }
 
-    // If the source tells its bytes and no device fails, a text whose circuit and cases settle has
-    // the outcome of its limits: `Faulty` exactly where `verify` finds a fault.
+    // If the source gives its bytes and no device fails, a text whose circuit and cases settle has
+    // the outcome of its limits: `Faulty` exactly if `verify` finds a fault.
     ensures finished { (text : List ℕ) → AreTold slack_program words.now (S.left source.old) text →
         ¬ Rose (S.faults source.old) (S.faults source.new) →
         ¬ Rose (K.faults sink.old) (K.faults sink.new) → EndsByLimits words.now text result }
@@ -111,5 +111,5 @@ pub fn slack_main<S: Source, K: Sink>(
     // that `verify` prints.
     ensures clean { IfSome (S.left source.old) (λ text. result ≡ Outcome.Clean → NeverBreaks text) }
 {
-    main_call::<SlackProgram, S, K>(alloc, words, source, sink, &mut 0)
+    main_call::<SlackProgram, S, K>(alloc, words, source, sink, &mut Omissions::unasked())
 }

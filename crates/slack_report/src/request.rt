@@ -19,7 +19,7 @@ pub enum Part {
 }
 
 /// What is asked for: which part, how many rows, 1 to 65,536, and how many rounds there may be, 1
-/// to 10,000,000, where that is said.
+/// to 10,000,000, if that is said.
 #[derive(Clone, Copy)]
 pub struct Request {
     pub part: Part,
@@ -51,7 +51,7 @@ fn worst_of(word: &[u8]) -> Option<u32>
     }
 }
 
-/// The request, where no word follows those that make it. Such a word would have this number.
+/// The request, if no word follows those that make it. Such a word would have this number.
 fn alone(request: Request, place: u32, others: &[Bytes]) -> Result<Request, u32>
     requires { IsWithin request }
     ensures is { result ≡ alone request place others.now }
@@ -64,7 +64,7 @@ fn alone(request: Request, place: u32, others: &[Bytes]) -> Result<Request, u32>
     }
 }
 
-/// What is asked for by the words from this number on, where it is known how many rows are asked
+/// What is asked for by the words from this number on, if it is known how many rows are asked
 /// for.
 fn after_worst(part: Part, worst: Option<u32>, place: u32, words: &[Bytes]) -> Result<Request, u32>
     requires worst { IfSome worst (λ rows. (1 ≤ rows) × (rows ≤ 65536)) }

@@ -1,4 +1,4 @@
-//! What is told of: a circuit, and the slacks of its limits.
+//! What is reported: a circuit, and the slacks of its limits.
 
 ghost use Rattle.std.specs.Prelude.{◌≤ℤ◌, pos};
 
@@ -123,7 +123,7 @@ pub struct Sheet<'a> {
     pub names: &'a Names,
 }
 
-/// A limit that something can break: its least slack, and that of the other side where one region
+/// A limit that something can break: its least slack, and that of the other side if one region
 /// of changes breaks both.
 #[derive(Clone, Copy)]
 pub struct Limit {
@@ -173,7 +173,7 @@ impl<'a> Sheet<'a> {
         }
     }
 
-    /// The tick at which a path begins; 0 where there is no such path.
+    /// The tick at which a path begins; 0 if there is no such path.
     pub fn begin(self, at: At) -> i64 {
         if self.rows.paths.has(at) {
             self.rows.paths.begin(at)
@@ -182,7 +182,7 @@ impl<'a> Sheet<'a> {
         }
     }
 
-    /// The steps of a path; none where there is no such path.
+    /// The steps of a path; none if there is no such path.
     pub fn steps(self, at: At) -> Result<Steps, NoMemory> {
         if self.rows.paths.has(at) {
             self.rows.paths.steps(self.alloc, at)
@@ -200,7 +200,7 @@ impl<'a> Sheet<'a> {
         }
     }
 
-    /// How many ticks before the clock the data is launched, where both come from one clock.
+    /// How many ticks before the clock the data is launched, if both come from one clock.
     pub fn ago(self, data: At, clock: At) -> Option<i64> {
         if self.rows.paths.has(data) && self.rows.paths.has(clock) {
             self.rows.paths.ago(data, clock)

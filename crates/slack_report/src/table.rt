@@ -102,7 +102,7 @@ fn put_lines(page: &mut Page, scratch: &mut Page, sheet: Sheet, rows: &[Row]) {
     }
 }
 
-/// Puts the table, with at least so many rows where there are.
+/// Puts the table, with at least so many rows if there are.
 pub fn put_table(page: &mut Page, sheet: Sheet, rows: &[Row], worst: Option<u32>) {
     let asked = worst.unwrap_or(0) as usize;
     let shown = FEWEST.max(broken_rows(rows)).max(asked).min(rows.len());

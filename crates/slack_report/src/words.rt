@@ -7,7 +7,7 @@ use crate::sheet::{Limit, Sheet};
 use critical_paths::Direction;
 use slack_rows::{Least, Parameter, Reason, Slack, Subject, Word};
 
-/// Puts the word of a limit, with its number where it has one.
+/// Puts the word of a limit, with its number if it has one.
 pub fn put_limit(page: &mut Page, parameter: Parameter) {
     let text: &[u8] = match parameter.word {
         Word::Setup => b"SETUP #",
@@ -76,7 +76,7 @@ fn put_text(page: &mut Page, sheet: Sheet, subject: Subject) {
     }
 }
 
-/// The bit of a net or an instance where that is told: where there is another, or it is not 0.
+/// The bit of a net or an instance if that is printed: if there is another, or it is not 0.
 fn told_bit(sheet: Sheet, subject: Subject) -> Option<u16> {
     let bit = sheet.bit(subject);
     if bit == 0 && sheet.names.is_alone(subject) {
@@ -92,7 +92,7 @@ pub fn put_bit_name(page: &mut Page, sheet: Sheet, subject: Subject) {
     page.fill(b"<#>", &[i64::from(sheet.bit(subject))]);
 }
 
-/// Puts the name of a net or an instance, whose bit is left out where it is the only one.
+/// Puts the name of a net or an instance, whose bit is left out if it is the only one.
 pub fn put_name(page: &mut Page, sheet: Sheet, subject: Subject) {
     match told_bit(sheet, subject) {
         Some(_) => put_bit_name(page, sheet, subject),

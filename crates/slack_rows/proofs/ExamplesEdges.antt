@@ -1,6 +1,6 @@
 -- Spans of a clock, checkers without a window, ways to several edges and pulses that may come again,
 -- worked out on paper.
-use Rattle.std.specs.Prelude.{◌≡◌, ℕ, ◌+◌, ◌-◌, true, false, [], ◌∷◌, pos, negsuc, Some}
+use Rattle.std.specs.Prelude.{◌≡◌, ℕ, ◌+◌, ◌-◌, true, false, [], ◌∷◌, pos, negsuc, Some, None}
 use Rattle.std.proofs.Common.{refl}
 use Rattle.scald_base.specs.Clock.{back}
 use Rattle.scald_base.specs.declared.assertion.AssertSpec.TheVariants.{Stable}
@@ -24,6 +24,10 @@ use Rattle.slack_rows.specs.Pulse.{may_change_again}
 use Rattle.slack_rows.specs.Watch.{span_watch, spans}
 use Rattle.slack_rows.specs.Window.{extent_of}
 use Rattle.slack_rows.specs.Way.{Guard, least_after, least_before}
+use Rattle.slack_rows.specs.Arrived.{edge_for, moved as moved_to, moved_by, moved_into}
+use Rattle.critical_paths.specs.declared.arrival.Arrival.{Arrival as Arrived}
+use Rattle.critical_paths.specs.declared.direction.Corner.TheVariants.{Late as LateCorner, Early as EarlyCorner}
+use Rattle.critical_paths.specs.declared.region.Region.{Region as Ticked}
 
 -- ---- from the rise at 2 or 3 to the last fall at 7
 
@@ -73,6 +77,51 @@ before_the_next = refl
 -- and not before 0 + 2
 after_the_last : least_after 16 (arrival ∷ []) (guard_at 48 ∷ guard_at 56 ∷ []) ≡ Some (pos 18)
 after_the_last = refl
+
+-- ---- which edge a launch is for, of one at 1 in a period of 16
+
+next_edge : edge_for LateCorner 16 (pos 3) (pos 1) ≡ pos 17
+next_edge = refl
+
+-- not its own
+after_own : edge_for LateCorner 16 (pos 1) (pos 1) ≡ pos 17
+after_own = refl
+
+last_edge : edge_for EarlyCorner 16 (pos 3) (pos 1) ≡ pos 1
+last_edge = refl
+
+own_edge : edge_for EarlyCorner 16 (pos 1) (pos 1) ≡ pos 1
+own_edge = refl
+
+before_first : edge_for EarlyCorner 16 (pos 0) (pos 1) ≡ negsuc 14
+before_first = refl
+
+moved_back : moved_by EarlyCorner 16 (pos 0) (pos 1) ≡ negsuc 15
+moved_back = refl
+
+-- ---- an arrival at 3 of an edge at 1, in a region three periods later
+
+abbrev known : Arrived
+known = record { ideal = pos 1; tick = pos 3; node = 0 }
+
+abbrev later_region : ℕ → ℕ → Ticked
+later_region first last = record { first = pos first; last = pos last }
+
+-- launched at 49
+before_50 : moved_into 16 (later_region 50 60) LateCorner (pos 50) known ≡ Some (moved_to known (pos 51))
+before_50 = refl
+
+not_after_50 : moved_into 16 (later_region 50 60) EarlyCorner (pos 50) known ≡ None
+not_after_50 = refl
+
+by_49 : moved_into 16 (later_region 50 60) EarlyCorner (pos 49) known ≡ Some (moved_to known (pos 51))
+by_49 = refl
+
+not_there : moved_into 16 (later_region 52 60) LateCorner (pos 50) known ≡ None
+not_there = refl
+
+at_its_end : moved_into 16 (later_region 52 67) LateCorner (pos 100) known ≡ Some (moved_to known (pos 67))
+at_its_end = refl
 
 -- ---- pulses
 

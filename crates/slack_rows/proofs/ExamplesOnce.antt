@@ -19,24 +19,40 @@ at_edge t = about 16 (extent_of 2 1) (record { first = t; last = t })
 abbrev ticks : ℕ → ℕ → Region
 ticks first last = record { first = first; last = last }
 
-one_edge : are_one_region (At (at_edge 4) (ticks 50 60)) (At (at_edge 4) (ticks 50 60)) ≡ true
+one_edge : are_one_region 16 (At (at_edge 4) (ticks 50 60)) (At (at_edge 4) (ticks 50 60)) ≡ true
 one_edge = refl
 
 -- It is too late for the first edge and too early after the second: earlier or later would do.
-covers_both : are_one_region (At (at_edge 4) (ticks 50 60)) (At (at_edge 9) (ticks 50 60)) ≡ true
+covers_both : are_one_region 16 (At (at_edge 4) (ticks 50 60)) (At (at_edge 9) (ticks 50 60)) ≡ true
 covers_both = refl
 
 -- Early after the first edge and late for the second, what mends the one makes the other worse.
-between_them : are_one_region (At (at_edge 9) (ticks 53 56)) (At (at_edge 4) (ticks 53 56)) ≡ false
+between_them : are_one_region 16 (At (at_edge 9) (ticks 53 56)) (At (at_edge 4) (ticks 53 56)) ≡ false
 between_them = refl
 
-other_begin : are_one_region (At (at_edge 4) (ticks 50 60)) (At (at_edge 4) (ticks 51 60)) ≡ false
+other_begin : are_one_region 16 (At (at_edge 4) (ticks 50 60)) (At (at_edge 4) (ticks 51 60)) ≡ false
 other_begin = refl
 
-other_end : are_one_region (At (at_edge 4) (ticks 50 60)) (At (at_edge 4) (ticks 50 59)) ≡ false
+other_end : are_one_region 16 (At (at_edge 4) (ticks 50 60)) (At (at_edge 4) (ticks 50 59)) ≡ false
 other_end = refl
 
-of_arrivals : are_one_region (Arrived (at_edge 4) 50) (Arrived (at_edge 4) 50) ≡ false
+-- A region about the end of the period: in the window of an edge at 14 and, a period before, in that
+-- of one at 4. It ends too late for the first of both, and begins too early after the second.
+over_the_end : are_one_region 16 (At (at_edge 14) (ticks 60 70)) (At (at_edge 4) (ticks 44 54)) ≡ true
+over_the_end = refl
+
+-- early after the edge at 14, and late for that at 4 of the next period
+between_periods : are_one_region 16 (At (at_edge 4) (ticks 47 52)) (At (at_edge 14) (ticks 63 68)) ≡ false
+between_periods = refl
+
+-- as long, and not whole periods apart
+as_long : are_one_region 16 (At (at_edge 14) (ticks 60 70)) (At (at_edge 4) (ticks 45 55)) ≡ false
+as_long = refl
+
+longer : are_one_region 16 (At (at_edge 14) (ticks 60 70)) (At (at_edge 4) (ticks 44 55)) ≡ false
+longer = refl
+
+of_arrivals : are_one_region 16 (Arrived (at_edge 4) 50) (Arrived (at_edge 4) 50) ≡ false
 of_arrivals = refl
 
 -- ---- told once
@@ -44,38 +60,38 @@ of_arrivals = refl
 abbrev told : Slack → ℕ → Told
 told slack pin = record { slack = slack; place = At (at_edge 4) (ticks 50 60); pin = pin; direction = Change }
 
-both_broken : reported_once true (told (Ticks (negsuc 0)) 1) (told (Ticks (negsuc 9)) 1) ≡ true
+both_broken : reported_once 16 true (told (Ticks (negsuc 0)) 1) (told (Ticks (negsuc 9)) 1) ≡ true
 both_broken = refl
 
-first_met : reported_once true (told (Ticks (pos 0)) 1) (told (Ticks (negsuc 9)) 1) ≡ false
+first_met : reported_once 16 true (told (Ticks (pos 0)) 1) (told (Ticks (negsuc 9)) 1) ≡ false
 first_met = refl
 
-second_met : reported_once true (told (Ticks (negsuc 0)) 1) (told (Ticks (pos 0)) 1) ≡ false
+second_met : reported_once 16 true (told (Ticks (negsuc 0)) 1) (told (Ticks (pos 0)) 1) ≡ false
 second_met = refl
 
-of_other_cases : reported_once false (told (Ticks (negsuc 0)) 1) (told (Ticks (negsuc 9)) 1) ≡ false
+of_other_cases : reported_once 16 false (told (Ticks (negsuc 0)) 1) (told (Ticks (negsuc 9)) 1) ≡ false
 of_other_cases = refl
 
-of_other_pins : reported_once true (told (Ticks (negsuc 0)) 1) (told (Ticks (negsuc 9)) 2) ≡ false
+of_other_pins : reported_once 16 true (told (Ticks (negsuc 0)) 1) (told (Ticks (negsuc 9)) 2) ≡ false
 of_other_pins = refl
 
 abbrev rising : Told
 rising = record { slack = Ticks (negsuc 0); place = At (at_edge 4) (ticks 50 60); pin = 1; direction = Rise }
 
-of_other_steps : reported_once true rising (told (Ticks (negsuc 9)) 1) ≡ false
+of_other_steps : reported_once 16 true rising (told (Ticks (negsuc 9)) 1) ≡ false
 of_other_steps = refl
 
 abbrev without : Slack → Told
 without slack = record { slack = slack; place = Nowhere; pin = 1; direction = Change }
 
 -- whatever the cases
-no_numbers : reported_once false (without NoNumber) (without NoNumber) ≡ true
+no_numbers : reported_once 16 false (without NoNumber) (without NoNumber) ≡ true
 no_numbers = refl
 
-one_number : reported_once true (without NoNumber) (without (Way (pos 1))) ≡ false
+one_number : reported_once 16 true (without NoNumber) (without (Way (pos 1))) ≡ false
 one_number = refl
 
-none_free : reported_once true (without Free) (without NoNumber) ≡ false
+none_free : reported_once 16 true (without Free) (without NoNumber) ≡ false
 none_free = refl
 
 -- ---- by the launch

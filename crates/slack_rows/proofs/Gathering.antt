@@ -1,5 +1,5 @@
 -- What the regions about a window come to, one after another and period by period.
-use Rattle.std.proofs.Common.{◌≡◌, ℕ, zero, suc, ◌+◌, ◌*◌, ◌<◌, ◌≤◌, Bool, true, false, ◌&&◌, cond, refl, sym, ap, subst, ◌∙◌, arith, List, [], ◌∷◌, ◌++◌, length, map, take, get_or, ◌||◌, Option, Some, None}
+use Rattle.std.proofs.Common.{◌≡◌, ℕ, zero, suc, ◌+◌, ◌*◌, ◌^◌, ◌<◌, ◌≤◌, Bool, true, false, ◌&&◌, cond, refl, sym, ap, subst, ◌∙◌, arith, List, [], ◌∷◌, ◌++◌, length, map, take, get_or, ◌||◌, Option, Some, None}
 use Rattle.std.specs.Prelude.{IfSome, ℤ, pos, ◌+ℤ◌, ◌-ℤ◌, filter, unsigned_abs}
 use Rattle.std.specs.List.{All, AllByRecursion, list_any}
 use Rattle.std.proofs.lemmas.List.Elements.{All-get_or}
@@ -41,6 +41,7 @@ use Rattle.slack_rows.proofs.Alike.{alike_broken, alike_lesser, alike_none, alik
 use Rattle.slack_rows.proofs.Unrolled.{moved_region, regions_more}
 use Rattle.slack_rows.proofs.Tellings.{least_map_more, lesser_of, tells_lesser, told_slack}
 use Rattle.slack_rows.proofs.Watched.{some_gap}
+use Rattle.slack_rows.proofs.Windows.{le_true}
 
 -- ---- one region more
 
@@ -230,6 +231,8 @@ module _ (p : ℕ) (pin : ℕ) (d : Direction) (w : Ticks) (near : IsCloseWindow
       let from = close.from in
       let ordered = close.ordered in
       record {
+        near = (λ i. le_true (unsigned_abs w.from) (2 ^ 20) near.from i
+            && (le_true (unsigned_abs r.first) (2 ^ 20) close.first i && le_true (unsigned_abs r.last) (2 ^ 20) close.last i));
         number = (spare_at corner w (end_at corner r), refl);
         opens = near.opens;
         first = close.from;

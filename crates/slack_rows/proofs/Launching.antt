@@ -1,5 +1,5 @@
 -- How long before an edge a change is launched, by what the program's paths tell.
-use Rattle.std.proofs.Common.{◌≡◌, ℕ, zero, suc, ◌*◌, ◌<◌, Bool, cond, refl, sym, ap, subst, ◌∙◌, arith, List, [], ◌∷◌, ◌++◌, length, Option, Some, None}
+use Rattle.std.proofs.Common.{◌≡◌, ℕ, zero, suc, ◌*◌, ◌%◌, ◌<◌, Bool, cond, refl, sym, ap, subst, ◌∙◌, arith, List, [], ◌∷◌, ◌++◌, length, Option, Some, None}
 use Rattle.std.specs.Prelude.{ℤ, pos, ◌+ℤ◌, ◌-ℤ◌, ◌≤ℤ◌, ◌==◌, slice_get, unsigned_abs}
 use Rattle.std.specs.Option.{option_and_then, option_map}
 use Rattle.std.proofs.lemmas.Int.{ints, int_rem_euclid_is}
@@ -33,11 +33,16 @@ use Rattle.slack_rows.proofs.Lying.{ahead_is}
 
 -- ---- ticks and slots
 
-pub slot_ahead : (p : ℕ) (tick : ℤ) → 0 < p → pos 0 ≤ℤ (pos (3 * p) +ℤ tick) → back p (ahead_of p tick) 0 ≡ slot_of p tick
-slot_ahead p tick some from =
+pub mod_ahead : (p : ℕ) (tick : ℤ) → 0 < p → pos 0 ≤ℤ (pos (3 * p) +ℤ tick) →
+    ahead_of p tick % p ≡ slot_of p tick
+mod_ahead p tick some from =
     let ahead = ahead_is p tick from in
-    back_zero p (ahead_of p tick)
-    ∙ sym (ap unsigned_abs (int_rem_euclid_is tick (pos p) p 3 (ahead_of p tick) some refl (omega (arith, ints, ahead))))
+    sym (ap unsigned_abs (int_rem_euclid_is tick (pos p) p 3 (ahead_of p tick) some refl
+    (omega (arith, ints, ahead))))
+
+pub slot_ahead : (p : ℕ) (tick : ℤ) → 0 < p → pos 0 ≤ℤ (pos (3 * p) +ℤ tick) →
+    back p (ahead_of p tick) 0 ≡ slot_of p tick
+slot_ahead p tick some from = back_zero p (ahead_of p tick) ∙ mod_ahead p tick some from
 
 pair_of : (net : ℕ) (x y : ℤ) → x ≡ y → ◌≡◌ {A = Option (ℕ × ℤ)} (Some (net, x)) (Some (net, y))
 pair_of net x y same = ap (λ (z : ℤ). Some (net, z)) same

@@ -1,5 +1,5 @@
 -- Two slacks that one region of changes tells, as the program compares them.
-use Rattle.std.proofs.Common.{◌≡◌, ℕ, ◌*◌, ◌<◌, ◌≤◌, ◌<ℤ◌, Bool, true, false, ◌&&◌, ◌||◌, refl, sym, ap, subst, ◌∙◌, arith, Some, None}
+use Rattle.std.proofs.Common.{◌≡◌, ℕ, ◌+◌, ◌*◌, ◌%◌, ◌<◌, ◌<ℤ◌, Bool, true, false, ◌&&◌, ◌||◌, refl, sym, ap, subst, ◌∙◌, arith, Some, None}
 use Rattle.std.specs.Prelude.{ℤ, pos, ◌+ℤ◌, ◌-ℤ◌, ◌≤ℤ◌, ◌==◌, int_le}
 use Rattle.std.proofs.lemmas.Bool.{eq-eqb, eqb-true}
 use Rattle.std.proofs.lemmas.Int.{ints}
@@ -11,11 +11,13 @@ use Rattle.slack_rows.specs.declared.slack.Reason.TheVariants.{Data, DataLoop, C
 use Rattle.slack_rows.specs.declared.slack.Slack.{Slack as Number}
 use Rattle.slack_rows.specs.declared.slack.Slack.TheVariants.{NoNumber as NumberOfNone, Ticks as NumberOfTicks, Way as NumberOfWay}
 use Rattle.slack_rows.specs.declared.slack.Told.{Told as Found}
-use Rattle.slack_rows.specs.Rows.{are_one_region, have_no_number}
+use Rattle.slack_rows.specs.declared.table.Shape.{Shape}
+use Rattle.critical_paths.specs.Tick.{slot_of}
+use Rattle.slack_rows.specs.Rows.{are_one_region, have_no_number, opens_after, same_region}
 use Rattle.slack_rows.specs.Slack.{Place, Nowhere, At, Arrived, InPulse, AtLevel, Slack, Free, NoNumber, Ticks, Way, is_broken}
-use Rattle.slack_rows.specs.Views.{IsByRegion, IsNear, ahead_of, place_by, place_of, place_without, region_in, region_told, told_by_found, window_in}
+use Rattle.slack_rows.specs.Views.{IsByRegion, IsNear, ahead_of, are_close, place_by, place_of, place_without, region_in, region_told, shape_in, told_by_found, window_in}
+use Rattle.slack_rows.proofs.Launching.{mod_ahead}
 use Rattle.slack_rows.proofs.Lying.{ahead_is}
-use Rattle.slack_rows.proofs.Windows.{le_false, le_true}
 
 -- ---- by no region
 
@@ -26,25 +28,25 @@ is_at (Arrived w t) = false
 is_at (InPulse t n) = false
 is_at (AtLevel t) = false
 
-not_first : (x y : Place) → is_at x ≡ false → false ≡ are_one_region x y
+not_first : (p : ℕ) (x y : Place) → is_at x ≡ false → false ≡ are_one_region p x y
 unfolding is_at
-not_first Nowhere y away = refl
-not_first (At w r) y away = absurd (cc)
-not_first (Arrived w t) y away = refl
-not_first (InPulse t n) y away = refl
-not_first (AtLevel t) y away = refl
+not_first p Nowhere y away = refl
+not_first p (At w r) y away = absurd (cc)
+not_first p (Arrived w t) y away = refl
+not_first p (InPulse t n) y away = refl
+not_first p (AtLevel t) y away = refl
 
-not_second : (x y : Place) → is_at y ≡ false → false ≡ are_one_region x y
+not_second : (p : ℕ) (x y : Place) → is_at y ≡ false → false ≡ are_one_region p x y
 unfolding is_at
-not_second Nowhere y away = refl
-not_second (At w r) Nowhere away = refl
-not_second (At w r) (At v s) away = absurd (cc)
-not_second (At w r) (Arrived v t) away = refl
-not_second (At w r) (InPulse t n) away = refl
-not_second (At w r) (AtLevel t) away = refl
-not_second (Arrived w t) y away = refl
-not_second (InPulse t n) y away = refl
-not_second (AtLevel t) y away = refl
+not_second p Nowhere y away = refl
+not_second p (At w r) Nowhere away = refl
+not_second p (At w r) (At v s) away = absurd (cc)
+not_second p (At w r) (Arrived v t) away = refl
+not_second p (At w r) (InPulse t n) away = refl
+not_second p (At w r) (AtLevel t) away = refl
+not_second p (Arrived w t) y away = refl
+not_second p (InPulse t n) y away = refl
+not_second p (AtLevel t) y away = refl
 
 module _ (p : ℕ) (found : Found) where
   without : (reason : Reason) → is_at (place_without reason) ≡ false
@@ -74,12 +76,16 @@ module _ (p : ℕ) (found : Found) where
   not_at (NumberOfWay n) none = refl
 
 pub none_before : (p : ℕ) (before after : Found) → region_told before.by ≡ None →
-    false ≡ are_one_region (told_by_found p before).place (told_by_found p after).place
-none_before p before after none = not_first (told_by_found p before).place (told_by_found p after).place (not_at p before before.slack none)
+    false ≡ are_one_region p (told_by_found p before).place (told_by_found p after).place
+none_before p before after none =
+    not_first p (told_by_found p before).place (told_by_found p after).place
+    (not_at p before before.slack none)
 
 pub none_after : (p : ℕ) (before after : Found) → region_told after.by ≡ None →
-    false ≡ are_one_region (told_by_found p before).place (told_by_found p after).place
-none_after p before after none = not_second (told_by_found p before).place (told_by_found p after).place (not_at p after after.slack none)
+    false ≡ are_one_region p (told_by_found p before).place (told_by_found p after).place
+none_after p before after none =
+    not_second p (told_by_found p before).place (told_by_found p after).place
+    (not_at p after after.slack none)
 
 -- ---- by two
 
@@ -117,73 +123,121 @@ right_off : (a b : Bool) → b ≡ false → false ≡ (a && b)
 right_off true b off = sym off
 right_off false b off = refl
 
-module _ (p : ℕ) (before after : Found) (one other : Ticked) (one_is : region_told before.by ≡ Some one) (other_is : region_told after.by ≡ Some other)
+-- one tick sooner, in the same order
+order_same : (a b x y : ℤ) → a ≡ x -ℤ pos 1 → b ≡ y -ℤ pos 1 → int_le x y ≡ int_le a b
+order_same a b x y a_is b_is = by (int_le x y) (int_le a b) refl refl
+  where
+    by : (s t : Bool) → int_le x y ≡ s → int_le a b ≡ t → s ≡ t
+    by true true first second = refl
+    by false false first second = refl
+    by true false first second =
+        let at = is_le x y first in
+        let past = not_le a b second in
+        absurd (omega (arith, ints, at, past, a_is, b_is))
+    by false true first second =
+        let past = not_le x y first in
+        let at = is_le a b second in
+        absurd (omega (arith, ints, at, past, a_is, b_is))
+
+module _ (p : ℕ) (some : 0 < p) (before after : Found) (one other : Ticked)
+    (one_is : region_told before.by ≡ Some one) (other_is : region_told after.by ≡ Some other)
     (near : IsNear p before before.by) (near_after : IsNear p after after.by) where
-  places : (b : Bool) → b ≡ are_one_region (At (window_in p before.window) (region_in p one)) (At (window_in p after.window) (region_in p other)) →
-      b ≡ are_one_region (told_by_found p before).place (told_by_found p after).place
-  places b same =
-      same ∙ sym (λ i. are_one_region (place_is p before one one_is near i) (place_is p after other other_is near_after i))
+  first : IsByRegion p before one
+  first = by_region p before one one_is near
 
-  opens_before : pos (ahead_of p (before.window.from -ℤ pos 1)) ≡ pos (3 * p) +ℤ (before.window.from -ℤ pos 1)
-  opens_before = let r = by_region p before one one_is near in ahead_is p (before.window.from -ℤ pos 1) r.opens
+  second : IsByRegion p after other
+  second = by_region p after other other_is near_after
 
-  opens_after : pos (ahead_of p (after.window.from -ℤ pos 1)) ≡ pos (3 * p) +ℤ (after.window.from -ℤ pos 1)
-  opens_after = let r = by_region p after other other_is near_after in ahead_is p (after.window.from -ℤ pos 1) r.opens
+  abbrev told_once : Bool
+  told_once = are_one_region p (told_by_found p before).place (told_by_found p after).place
 
-  -- in order, and of one region
-  pub one_region : before.window.from ≤ℤ after.window.from → one ≡ other →
-      true ≡ are_one_region (told_by_found p before).place (told_by_found p after).place
-  one_region order same =
-      let first = opens_before in
-      let second = opens_after in
-      let le : ahead_of p (before.window.from -ℤ pos 1) ≤ ahead_of p (after.window.from -ℤ pos 1) = omega (arith, ints, first, second, order) in
-      places true
-      (both_same _ _ (le_true (ahead_of p (before.window.from -ℤ pos 1)) (ahead_of p (after.window.from -ℤ pos 1)) le)
-      (sym (both_same _ _ (eq-eqb (ahead_of p one.first) (ahead_of p other.first) (ap (λ (r : Ticked). ahead_of p r.first) same))
-      (eq-eqb (ahead_of p one.last) (ahead_of p other.last) (ap (λ (r : Ticked). ahead_of p r.last) same)))))
+  abbrev in_order : Bool
+  in_order = int_le (before.window.from -ℤ one.first) (after.window.from -ℤ other.first)
 
-  pub out_of_order : int_le before.window.from after.window.from ≡ false →
-      false ≡ are_one_region (told_by_found p before).place (told_by_found p after).place
-  out_of_order order =
-      let first = opens_before in
-      let second = opens_after in
-      places false
-      (left_off _ _ (le_false (ahead_of p (before.window.from -ℤ pos 1)) (ahead_of p (after.window.from -ℤ pos 1)) (by (ahead_of p (before.window.from -ℤ pos 1)) (ahead_of p (after.window.from -ℤ pos 1)) first second)))
+  abbrev same_slots : Bool
+  same_slots = ahead_of p one.first % p == ahead_of p other.first % p
+
+  abbrev same_longs : Bool
+  same_longs = ahead_of p one.last + ahead_of p other.first == ahead_of p other.last + ahead_of p one.first
+
+  abbrev same : Bool
+  same = same_region p (region_in p one) (region_in p other)
+
+  -- by the order of the windows, and whether the regions are the same
+  told_is : told_once ≡ (in_order && same)
+  told_is =
+      (λ i. are_one_region p (place_is p before one one_is near i)
+      (place_is p after other other_is near_after i))
+      ∙ sym (λ i. order_same _ _ (before.window.from -ℤ one.first)
+      (after.window.from -ℤ other.first) (opens before one first) (opens after other second) i
+      && same)
     where
-      less : after.window.from <ℤ before.window.from
-      less = not_le before.window.from after.window.from order
+      opens : (found : Found) (r : Ticked) → IsByRegion p found r →
+          opens_after (region_in p r) (window_in p found.window)
+          ≡ (found.window.from -ℤ r.first) -ℤ pos 1
+      opens found r is =
+          let from = ahead_is p (found.window.from -ℤ pos 1) is.opens in
+          let begin = ahead_is p r.first is.first in
+          omega (arith, ints, from, begin)
 
-      by : (a b : ℕ) → pos a ≡ pos (3 * p) +ℤ (before.window.from -ℤ pos 1) → pos b ≡ pos (3 * p) +ℤ (after.window.from -ℤ pos 1) → b < a
-      by a b first second = omega (arith, ints, first, second, less)
+  pub not_close : are_close before.window one ≡ false → false ≡ told_once
+  not_close far = absurd (let near = first.near in cc)
 
-  pub other_regions : (one ≡ other → ⊥) → false ≡ are_one_region (told_by_found p before).place (told_by_found p after).place
-  other_regions differ = places false (right_off _ _ (by (ahead_of p one.first == ahead_of p other.first) refl (ahead_of p one.last == ahead_of p other.last) refl))
+  pub not_close_after : are_close after.window other ≡ false → false ≡ told_once
+  not_close_after far = absurd (let near = second.near in cc)
+
+  pub out_of_order : in_order ≡ false → false ≡ told_once
+  out_of_order order = left_off in_order same order ∙ sym told_is
+
+  begin : pos (ahead_of p one.first) ≡ pos (3 * p) +ℤ one.first
+  begin = ahead_is p one.first first.first
+
+  begin_other : pos (ahead_of p other.first) ≡ pos (3 * p) +ℤ other.first
+  begin_other = ahead_is p other.first second.first
+
+  end : pos (ahead_of p one.last) ≡ pos (3 * p) +ℤ one.last
+  end = ahead_is p one.last first.last
+
+  end_other : pos (ahead_of p other.last) ≡ pos (3 * p) +ℤ other.last
+  end_other = ahead_is p other.last second.last
+
+  -- by whether they are of one shape
+  pub one_or_not : in_order ≡ true → (b : Bool) → (b ≡ true → shape_in p one ≡ shape_in p other) →
+      (b ≡ false → shape_in p one ≡ shape_in p other → ⊥) → b ≡ told_once
+  one_or_not order true alike differ =
+      both_same in_order same order same_is ∙ sym told_is
     where
-      by : (a : Bool) → (ahead_of p one.first == ahead_of p other.first) ≡ a → (b : Bool) → (ahead_of p one.last == ahead_of p other.last) ≡ b →
-          ((ahead_of p one.first == ahead_of p other.first) && (ahead_of p one.last == ahead_of p other.last)) ≡ false
-      by true first true last = absurd (differ (same_ticks first last))
-        where
-          same_ticks : (ahead_of p one.first == ahead_of p other.first) ≡ true → (ahead_of p one.last == ahead_of p other.last) ≡ true → one ≡ other
-          same_ticks first last =
-              let r = by_region p before one one_is near in
-              let s = by_region p after other other_is near_after in
-              let firsts = eqb-true (ahead_of p one.first) (ahead_of p other.first) first in
-              let lasts = eqb-true (ahead_of p one.last) (ahead_of p other.last) last in
-              let a = ahead_is p one.first r.first in
-              let b = ahead_is p other.first s.first in
-              let d = ahead_is p one.last r.last in
-              let e = ahead_is p other.last s.last in
-              let begin : one.first ≡ other.first = omega (arith, ints, a, b, firsts) in
-              let end : one.last ≡ other.last = omega (arith, ints, d, e, lasts) in
-              (λ i. record { first = begin i; last = end i })
-      by true first false last = (λ i. first i && last i)
-      by false first b last = ap (λ (x : Bool). x && (ahead_of p one.last == ahead_of p other.last)) first
+      same_is : same ≡ true
+      same_is =
+          let slots = ap (λ (s : Shape). s.slot) (alike refl) in
+          let long : one.last -ℤ one.first ≡ other.last -ℤ other.first = ap (λ (s : Shape). s.ticks) (alike refl) in
+          sym (both_same same_slots same_longs
+          (eq-eqb (ahead_of p one.first % p) (ahead_of p other.first % p)
+          (mod_ahead p one.first some first.first ∙ slots
+          ∙ sym (mod_ahead p other.first some second.first)))
+          (eq-eqb (ahead_of p one.last + ahead_of p other.first)
+          (ahead_of p other.last + ahead_of p one.first)
+          (omega (arith, ints, begin, begin_other, end, end_other, long))))
+  one_or_not order false alike differ =
+      right_off in_order same (by same_slots refl same_longs refl) ∙ sym told_is
+    where
+      slots_are : same_slots ≡ true → slot_of p one.first ≡ slot_of p other.first
+      slots_are slots =
+          sym (mod_ahead p one.first some first.first)
+          ∙ eqb-true (ahead_of p one.first % p) (ahead_of p other.first % p) slots
+          ∙ mod_ahead p other.first some second.first
 
-  -- by whether they are one
-  pub one_or_not : int_le before.window.from after.window.from ≡ true → (b : Bool) → (b ≡ true → one ≡ other) → (b ≡ false → one ≡ other → ⊥) →
-      b ≡ are_one_region (told_by_found p before).place (told_by_found p after).place
-  one_or_not order true same differ = one_region (is_le before.window.from after.window.from order) (same refl)
-  one_or_not order false same differ = other_regions (differ refl)
+      ticks_are : same_longs ≡ true → one.last -ℤ one.first ≡ other.last -ℤ other.first
+      ticks_are longs =
+          let long = eqb-true (ahead_of p one.last + ahead_of p other.first)
+          (ahead_of p other.last + ahead_of p one.first) longs in
+          omega (arith, ints, begin, begin_other, end, end_other, long)
+
+      by : (a : Bool) → same_slots ≡ a → (b : Bool) → same_longs ≡ b → same ≡ false
+      by true slots true longs =
+          absurd (differ refl (λ i. record { slot = slots_are slots i; ticks = ticks_are longs i }))
+      by true slots false longs = (λ i. slots i && longs i)
+      by false slots b longs = ap (λ (x : Bool). x && same_longs) slots
 
 -- ---- told once
 

@@ -170,15 +170,15 @@ module _ (c : Circuit) (cases : List Case) (limits : List Parameter) (least : Li
   is_known_limit q (Some found) is = is.told
 
   -- what nothing can break is not told with another one
-  free_first : (same : Bool) (a t : Told) → a.slack ≡ Free → reported_once same a t ≡ false
+  free_first : (same : Bool) (a t : Told) → a.slack ≡ Free → reported_once (period c.header) same a t ≡ false
   free_first same a t free =
       (λ i. have_no_number (free i) t.slack || (is_broken (free i) && (is_broken t.slack && (same && (is_same_pin a t
-      && are_one_region a.place t.place)))))
+      && are_one_region (period c.header) a.place t.place)))))
 
-  free_second : (same : Bool) (a t : Told) → t.slack ≡ Free → reported_once same a t ≡ false
+  free_second : (same : Bool) (a t : Told) → t.slack ≡ Free → reported_once (period c.header) same a t ≡ false
   free_second same a t free =
       (λ i. have_no_number a.slack (free i) || (is_broken a.slack && (is_broken (free i) && (same && (is_same_pin a t
-      && are_one_region a.place t.place)))))
+      && are_one_region (period c.header) a.place t.place)))))
       ∙ by a.slack
     where
       by : (s : Slack) → (have_no_number s Free || (is_broken s && false)) ≡ false
@@ -194,10 +194,10 @@ module _ (c : Circuit) (cases : List Case) (limits : List Parameter) (least : Li
   -- by which case they are told
   one_case : (q r : Parameter) (found other : Option Least) → IsKnown c cases sets q found → IsKnown c cases sets r other →
       (a t : Told) → Tells (period c.header) (told_least found) a → Tells (period c.header) (told_least other) t →
-      reported_once (in_one_case found other) a t
-      ≡ reported_once (first_with c cases q.subject q.word == first_with c cases r.subject r.word) a t
+      reported_once (period c.header) (in_one_case found other) a t
+      ≡ reported_once (period c.header) (first_with c cases q.subject q.word == first_with c cases r.subject r.word) a t
   one_case q r (Some found) (Some other) is is_other a t tells tells_other =
-      (λ i. reported_once (sym is.in_case i == sym is_other.in_case i) a t)
+      (λ i. reported_once (period c.header) (sym is.in_case i == sym is_other.in_case i) a t)
   one_case q r None other is is_other a t tells tells_other =
       free_first false a t tells ∙ sym (free_first (first_with c cases q.subject q.word == first_with c cases r.subject r.word) a t tells)
   one_case q r (Some found) None is is_other a t tells tells_other =
@@ -205,8 +205,9 @@ module _ (c : Circuit) (cases : List Case) (limits : List Parameter) (least : Li
 
   pub told_at : (i : ℕ) (q : Parameter) (told : Bool) → slice_get limits i ≡ Some q → is_sure c cases q.subject ≡ true →
       is_some (partner q.word) ≡ true →
-      ((p : ℕ) (a t : Told) → Tells p (told_least (least_at least i 1)) a → Tells p (told_least (least_at least i 0)) t →
-      told ≡ reported_once (in_one_case (least_at least i 1) (least_at least i 0)) a t) →
+      ((a t : Told) → Tells (period c.header) (told_least (least_at least i 1)) a →
+      Tells (period c.header) (told_least (least_at least i 0)) t →
+      told ≡ reported_once (period c.header) (in_one_case (least_at least i 1) (least_at least i 0)) a t) →
       told ≡ is_reported c cases (row c cases q.subject q.word)
   told_at i q told at sure second is = by (partner q.word) refl second
     where
@@ -221,7 +222,7 @@ module _ (c : Circuit) (cases : List Case) (limits : List Parameter) (least : Li
           subst (IsKnown c cases sets q) (sym (own_back i)) (tells_at i q at sure) in
           let first = is_known_limit (limit_with c q.subject before) (least_at least i 1) known_first in
           let own = is_known_limit q (least_at least i 0) known_own in
-          is (period c.header) (least_told c cases q.subject before) (least_told c cases q.subject q.word) first own
+          is (least_told c cases q.subject before) (least_told c cases q.subject q.word) first own
           ∙ one_case (limit_with c q.subject before) q (least_at least i 1) (least_at least i 0) known_first known_own
           (least_told c cases q.subject before) (least_told c cases q.subject q.word) first own
 

@@ -19,7 +19,7 @@ use Rattle.critical_paths.specs.declared.direction.Corner.{Corner}
 use Rattle.critical_paths.specs.declared.direction.Corner.TheVariants.{Late, Early}
 use Rattle.slack_rows.specs.declared.held.Held.{Held}
 use Rattle.slack_rows.specs.declared.window.Window.{Window}
-use Rattle.slack_rows.specs.Held.{GoesOn, step_held}
+use Rattle.slack_rows.specs.Held.{GoesOn, IsHeld, step_held}
 
 -- no path more
 pub goes_none : (c : Circuit) (ws : Waves) (nodes : List Node) (met : List (Stop × ℕ)) → Knows c ws nodes met → GoesOn c ws nodes nodes met
@@ -73,3 +73,11 @@ pub step_corner : (held : Held) (w : Window) (corner : Corner) →
     (step_held held w corner).corner ≡ other_corner corner
 step_corner held w Late = refl
 step_corner held w Early = refl
+
+pub is_held : (c : Circuit) (pins : List Pin) (held : Held) → All (IsPin c) pins →
+    (k : ℕ) × (slice_get pins k ≡ Some held.pin) → (k : ℕ) × (slice_get pins k ≡ Some held.clock) →
+    IsHeld c held
+is_held c pins held all pin clock = record {
+  pin = pin_at c pins pin.0 held.pin all pin.1;
+  clock = pin_at c pins clock.0 held.clock all clock.1;
+}

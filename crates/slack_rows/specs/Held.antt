@@ -29,11 +29,7 @@ use Rattle.slack_rows.specs.declared.around.Around.{Around}
 use Rattle.slack_rows.specs.declared.around.Side.{Side as Counted}
 use Rattle.slack_rows.specs.declared.around.Side.TheVariants.{Before as LiesBefore, Late as CountsLate, Early as CountsEarly, After as LiesAfter}
 use Rattle.slack_rows.specs.declared.held.Held.{Held}
-use Rattle.critical_paths.specs.declared.arrival.Arrival.{Arrival as Arrived}
 use Rattle.critical_paths.specs.declared.event.PinEvent.{PinEvent}
-use Rattle.slack_rows.specs.declared.slack.By.TheVariants.{Way as ByWay}
-use Rattle.slack_rows.specs.declared.slack.Slack.{Slack as Number}
-use Rattle.slack_rows.specs.declared.slack.Told.{Told as Found}
 use Rattle.slack_rows.specs.declared.slack.Slacks.{Slacks}
 use Rattle.slack_rows.specs.declared.window.Window.{Window as Ticks}
 use Rattle.slack_rows.specs.declared.window.Extent.{Extent}
@@ -210,7 +206,7 @@ pub record AreAround (p : ℕ) (launched : Region → Side) (pair : Region → B
   pub close_first : MayBeClose p all.first
   pub close_two : MayBeClose p all.two
 
--- ---- what is told of windows
+-- ---- the slacks of windows
 
 -- the regions of changes that come in some slots, and not in all
 pub record AreChanges (p : ℕ) (ev : Events) (changes : List Ticked) : Type 0 where
@@ -218,7 +214,7 @@ pub record AreChanges (p : ℕ) (ev : Events) (changes : List Ticked) : Type 0 w
   pub some : all_events p ev ≡ false
   pub are : changes ≡ map ticks_of_region (regions p ev)
 
--- What is told of two sides, as far as arrivals have no say in it: of each whether something can
+-- The slacks of two sides, as far as arrivals have no say in it: of each whether something can
 -- break it, and whether one of both is broken.
 pub record AreAlike (found : Slacks) (one other : Slack) : Type 0 where
   pub before : is_free (slack_told found.before) ≡ is_free one
@@ -248,7 +244,7 @@ pub record TellSides (p : ℕ) (except : Bool) (one other : Told) (found : Slack
   pub after : except ≡ false → Tells p found.after other
   pub alike : AreAlike found one.slack other.slack
 
--- The slacks about a window, exactly but where two launches may make the only region that meets it.
+-- The slacks about a window, exactly unless two launches may make the only region that meets it.
 pub record TellWindow (p : ℕ) (ev : Events) (launches : Launches) (two : Window → Region → Bool)
     (pin : ℕ) (direction : Direction)
     (w : Window) (found : Slacks) : Type 0 where
@@ -259,7 +255,7 @@ pub record TellWindow (p : ℕ) (ev : Events) (launches : Launches) (two : Windo
   pub alike : AreAlike found (before_window p ev launches w).slack
       (after_window p ev launches w).slack
 
--- The least slacks about windows, exactly but where two launches may make the only region that
+-- The least slacks about windows, exactly unless two launches may make the only region that
 -- meets one.
 pub record TellWindows (p : ℕ) (ev : Events) (launches : Launches) (two : Window → Region → Bool)
     (pin : ℕ) (direction : Direction)
@@ -301,7 +297,7 @@ pub record TellWatch (p : ℕ) (launches : Launches) (except : Bool) (pin : ℕ)
   pub alike : AreAlike found (told_before p launches watch).slack
       (told_after p launches watch).slack
 
--- The same of a change that is never to come, and of those in windows: exactly but where two
+-- The same of a change that is never to come, and of those in windows: exactly unless two
 -- launches may make the only region that meets one.
 pub record TellParts (p : ℕ) (launches : Launches) (two : Window → Region → Bool) (pin : ℕ)
     (direction : Direction) (watch : Watch)
@@ -327,7 +323,7 @@ watch_at p changes still =
 abbrev pub lacking : Direction → Folds → Events
 lacking d folds t = not (moves d (has (folds t)))
 
--- the slacks of a pin, where it is beside the marked one of an instance
+-- the slacks of a pin, if it is beside the marked one of an instance
 pub record TellBeside (c : Circuit) (ws : Waves) (j : Instance) (marked i : ℕ)
     (found : Slacks) : Type 0 where
   pub level : is_beside j marked i ≡ true →
@@ -342,7 +338,7 @@ pub record TellBeside (c : Circuit) (ws : Waves) (j : Instance) (marked i : ℕ)
   pub none : is_beside j marked i ≡ false →
       (found.level ≡ None) × (found.before ≡ None) × (found.after ≡ None)
 
--- What is told of a net's steps of a direction, by what it may do and what its assertion permits.
+-- What a net's steps of a direction are held to: what it may do, and what its assertion permits.
 abbrev pub steps_watch : ℕ → Folds → Folds → Direction → Watch
 steps_watch p folds wide d = watch_at p (events d folds) (lacking d wide)
 
@@ -367,7 +363,7 @@ is_step_outside v wide =
 abbrev pub is_high_outside : Value → Value → Bool
 is_high_outside v wide = has v true true && not (has wide true true)
 
--- A level in the first slot that is not permitted, where no step is outside: 1, if that is not.
+-- A level in the first slot that is not permitted, if no step is outside: 1, if that is not.
 abbrev pub IsLevelIn : (ℕ → Bool) → Option Reason → Option ℕ → Type 0
 IsLevelIn high found None = found ≡ None
 IsLevelIn high found (Some slot) = found ≡ Some (Level (high slot) slot)
@@ -376,7 +372,7 @@ abbrev pub IsLevelTold : (ℕ → Bool) → Option Reason → Bool → Option �
 IsLevelTold high found true excess = found ≡ None
 IsLevelTold high found false excess = IsLevelIn high found excess
 
--- those of two launches, or where there are none those of regions
+-- those of two launches, or if there are none those of regions
 abbrev pub slacks_of_two : Option Slacks → Slacks → Slacks
 slacks_of_two None regions = regions
 slacks_of_two (Some two) regions = two
@@ -390,14 +386,3 @@ step_held held w LateCorner =
     record { pin = held.clock; direction = held.opens; tick = w.first; corner = EarlyCorner }
 step_held held w EarlyCorner =
     record { pin = held.clock; direction = held.shuts; tick = w.last; corner = LateCorner }
-
-abbrev pub told_by_arrival : Held → Number → Ticks → Arrived → Found
-told_by_arrival held slack w found =
-    record {
-      slack = slack;
-      window = w;
-      pin = held.place;
-      direction = Change;
-      tick = found.tick;
-      by = ByWay found.node;
-    }

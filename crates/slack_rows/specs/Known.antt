@@ -48,7 +48,7 @@ pub record IsSetWith (old : List (ℕ × ℕ)) (set : ℕ × ℕ) (number : ℕ)
 
 -- ---- what goes by arrivals
 
--- Arrivals decide what is told of a subject in none of these cases.
+-- Arrivals decide the slacks of a subject in none of these cases.
 abbrev pub is_sure : Circuit → List Case → Subject → Bool
 is_sure c cases subject =
     not (list_any (λ (case : Case). by_arrivals c case.waves subject) cases)
@@ -57,7 +57,7 @@ is_sure c cases subject =
 abbrev pub are_sure : Circuit → List Case → Bool
 are_sure c cases = list_all (is_sure c cases) (subjects c)
 
--- Which side is broken arrivals may say of these, where two launches are at one edge.
+-- Which side is broken arrivals may say of these, if two launches are at one edge.
 abbrev pub may_be_two : Limit → Bool
 may_be_two Setup = true
 may_be_two Hold = true
@@ -70,7 +70,7 @@ may_be_two Assert = false
 may_be_two StableFrom = false
 may_be_two StableTo = false
 
--- of a limit and the one on the other side of the same edges one is broken exactly where one is
+-- of a limit and the one on the other side of the same edges one is broken exactly if one is
 -- told to be
 abbrev pub BreakAlike : (Limit → Told) → Slacks → Limit → Option Limit → Type 0
 BreakAlike told slacks word None = Unit {0}
@@ -100,7 +100,7 @@ SlacksKnown c ws (Some subject) slacks =
     TellLimits (period c.header) (by_arrivals c ws subject) (told_in c ws subject)
     (limits_of c subject) slacks
 
--- what is told of a limit, and whether two are of one case
+-- the slack of a limit, and whether two are of one case
 abbrev pub told_least : Option Least → Option Found
 told_least None = None
 told_least (Some least) = Some least.told
@@ -141,7 +141,7 @@ least_at least place count =
     if nat_le count place then slice_index_or least (place - count) None else None
 
 -- Of a limit and the one on the other side of the same edges, which stands before it, one is broken
--- exactly where one is said to be.
+-- exactly if one is said to be.
 abbrev pub BreaksBoth : Circuit → List Case → List (Option Least) → ℕ → Parameter → Option Limit →
     Type 0
 BreaksBoth c cases least place q None = Unit {0}
@@ -150,7 +150,7 @@ BreaksBoth c cases least place q (Some before) =
     ≡ (is_broken (least_told c cases q.subject before).slack
     || is_broken (least_told c cases q.subject q.word).slack)
 
--- Of each limit of the circuit: all where arrivals do not decide, and always whether something can
+-- Of each limit of the circuit: all if arrivals do not decide, and always whether something can
 -- break it and whether it is broken, of two sides together.
 pub record AreKnown (c : Circuit) (cases : List Case) (limits : List Parameter)
     (least : List (Option Least)) (numbers : List ℕ) (sets : List (ℕ × ℕ)) : Type 0 where
@@ -197,7 +197,7 @@ abbrev pub IfFound : (Least → Type 0) → Option Least → Type 0
 IfFound is None = ⊥
 IfFound is (Some found) = is found
 
--- by whether the told one is less, and whether it is more
+-- by whether the new one is less, and whether it is more
 abbrev pub IsLoweredBy : Bool → Bool → List (ℕ × ℕ) → Least → Found → ℕ → List (ℕ × ℕ) →
     Option Least → Type 0
 IsLoweredBy true more sets least told case new found = IfFound (IsFirst sets told case new) found
@@ -205,7 +205,7 @@ IsLoweredBy false true sets least told case new found = IsKept sets (Some least)
 IsLoweredBy false false sets least told case new found =
     IfFound (IsJoined sets least case new) found
 
--- the least with what is told in a case more
+-- the least with that of one case more
 abbrev pub IsLowered : List (ℕ × ℕ) → Option Least → Option Found → ℕ → List (ℕ × ℕ) →
     Option Least → Type 0
 IsLowered sets least None case new found = IsKept sets least new found

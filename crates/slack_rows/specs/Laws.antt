@@ -1,4 +1,4 @@
--- Laws of slacks: a limit is broken exactly where there is a fault.
+-- Laws of slacks: a limit is broken exactly if there is a fault.
 use Rattle.std.specs.Prelude.{◌≡◌, ◌⊎◌, ◌↔◌, ℕ, ◌*◌, ◌<◌, ◌≤◌, Bool, true, false, List, [], ◌∷◌, length, slice_get, is_some, Some}
 use Rattle.std.specs.List.{AllByRecursion}
 use Rattle.scald_base.specs.Time.{IsHeader, period}
@@ -49,7 +49,7 @@ IsTouchedWatch watch = ((watch.never ≡ true) × SomeTick watch.changes)
 abbrev pub IsBroken : Told → Type 0
 IsBroken told = is_broken told.slack ≡ true
 
--- One of the two slacks is broken exactly where it does, whatever is known of launches.
+-- One of the two slacks is broken exactly if it does, whatever is known of launches.
 abbrev pub BrokenWhereTouched : Type 0
 BrokenWhereTouched =
     (p : ℕ) (launches : Launches) (watch : Watch) → 2 ≤ p → IsCyclic p watch.changes →
@@ -69,7 +69,7 @@ pub record AreWaves (c : Circuit) (ws : Waves) : Type 0 where
   pub header : IsHeader c.header
   pub long : (i : ℕ) → i < length c.nets → length (ws i).cells ≡ period c.header
 
--- A checker at edges has a fault exactly where its setup or its hold slack is broken.
+-- A checker at edges has a fault exactly if its setup or its hold slack is broken.
 abbrev pub EdgesBreakWithFaults : Type 0
 EdgesBreakWithFaults =
     (c : Circuit) (ws : Waves) (k : ℕ) (j : Instance) → AreWaves c ws →
@@ -78,7 +78,7 @@ EdgesBreakWithFaults =
     (is_some (instance_fault c ws k) ≡ true)
     ↔ (Breaks c ws (OfInstance k) Setup ⊎ Breaks c ws (OfInstance k) Hold)
 
--- A checker of widths has a fault of high pulses exactly where the slack of their width is broken,
+-- A checker of widths has a fault of high pulses exactly if the slack of their width is broken,
 -- and so with low ones.
 abbrev pub limit_of_level : Bool → Limit
 limit_of_level true = High
@@ -96,7 +96,7 @@ WidthsBreakWithFaults =
     (is_some (width_fault c ws k j level (width_of_level j level)) ≡ true)
     ↔ Breaks c ws (OfInstance k) (limit_of_level level)
 
--- A marked gate has a hazard exactly where one of its slacks is broken.
+-- A marked gate has a hazard exactly if one of its slacks is broken.
 abbrev pub MarksBreakWithFaults : Type 0
 MarksBreakWithFaults =
     (c : Circuit) (ws : Waves) (k : ℕ) (j : Instance) → AreWaves c ws →
@@ -106,7 +106,7 @@ MarksBreakWithFaults =
     (Breaks c ws (OfInstance k) Gate
     ⊎ (Breaks c ws (OfInstance k) GateBefore ⊎ Breaks c ws (OfInstance k) GateAfter))
 
--- A driven net breaks its assertion exactly where one of its slacks is broken.
+-- A driven net breaks its assertion exactly if one of its slacks is broken.
 abbrev pub NetsBreakWithFaults : Type 0
 NetsBreakWithFaults =
     (c : Circuit) (ws : Waves) (i : ℕ) → AreWaves c ws → i < length c.nets →

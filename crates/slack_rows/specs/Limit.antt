@@ -180,7 +180,7 @@ steps_outside p found wide =
     || (has (found t) true false && not (has (wide t) true false)))
     (range_with_len 0 p)
 
--- a level that it has not, where it has all steps
+-- a level that it has not, if it has all steps
 abbrev pub told_outside : Bool → Option ℕ → Told
 told_outside true excess = told_alone Free
 told_outside false None = told_alone Free
@@ -217,7 +217,7 @@ told_held c ws i limit None = told_alone Free
 told_held c ws i limit (Some net) =
     if is_held net then told_net c ws i net limit else told_alone Free
 
--- what is told of a limit of a subject in these waves
+-- the slack of a limit of a subject in these waves
 unfoldable pub told_in : Circuit → Waves → Subject → Limit → Told
 told_in c ws (OfInstance k) limit = told_instance c ws limit (slice_get c.instances k)
 told_in c ws (OfNet i) limit = told_held c ws i limit (slice_get c.nets i)
@@ -225,7 +225,7 @@ told_in c ws (OfNet i) limit = told_held c ws i limit (slice_get c.nets i)
 -- ---- by arrivals
 
 -- There is a window, and the changes of a watch may come in every slot; or two launches may make
--- the only region that meets one of its windows: then what is told goes by arrivals.
+-- the only region that meets one of its windows: then the slack goes by arrivals.
 abbrev pub is_by_arrivals : ℕ → (Window → Region → Bool) → Watch → Bool
 is_by_arrivals p two watch =
     (all_events p watch.changes && is_met watch.windows false)
@@ -240,7 +240,7 @@ check_by_arrivals c ws j (Some RiseToFall) =
     is_by_arrivals (period c.header) (two_at_ends c ws j 0 1 Rise) (spans_of c ws j)
 check_by_arrivals c ws j (Some Widths) = false
 
--- beside a mark nothing is told of ways
+-- beside a mark no number is one of ways
 abbrev pub beside_by_arrivals : Circuit → Waves → Instance → ℕ → ℕ → Bool
 beside_by_arrivals c ws j marked i =
     list_any (two_in (period c.header) (watch_beside c ws j marked i).changes
@@ -258,7 +258,7 @@ instance_by_arrivals c ws (Some j) =
     if may_be_marked j.kind then mark_by_arrivals c ws j (marked_pin j)
     else check_by_arrivals c ws j (check_of j.kind)
 
--- what is told of a limit of a subject goes by arrivals
+-- the slack of a limit of a subject goes by arrivals
 unfoldable pub by_arrivals : Circuit → Waves → Subject → Bool
 by_arrivals c ws (OfInstance k) = instance_by_arrivals c ws (slice_get c.instances k)
 by_arrivals c ws (OfNet i) = false

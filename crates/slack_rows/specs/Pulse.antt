@@ -51,7 +51,7 @@ left_if s level None = None
 left_if s level (Some pulse) =
     if int_le (left_of s level pulse.1) (pos 0) then Some (left_of s level pulse.1) else None
 
--- where a driver has two delays and makes a pulse of its own output so narrow that nothing is left
+-- if a driver has two delays and makes a pulse of its own output so narrow that nothing is left
 -- of it, what is
 abbrev pub left_by : Circuit → Waves → Instance → Bool → Option Split → Option ℤ
 left_by c ws j level None = None

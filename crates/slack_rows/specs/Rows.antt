@@ -1,6 +1,7 @@
 -- The rows of the table, worst first.
-use Rattle.std.specs.Prelude.{ℕ, ◌+◌, ◌==◌, nat_le, Bool, true, false, not, ◌&&◌, ◌||◌, List, [], ◌∷◌, ◌++◌, filter, length, map, slice_get, if◌then◌else◌, Option, Some, None}
+use Rattle.std.specs.Prelude.{ℕ, ◌+◌, ◌%◌, ◌==◌, Bool, true, false, not, ◌&&◌, ◌||◌, List, [], ◌∷◌, ◌++◌, filter, length, map, slice_get, ℤ, pos, ◌-ℤ◌, int_le, if◌then◌else◌, Option, Some, None}
 use Rattle.std.specs.List.{count_by, flat_map, list_any, range_with_len}
+use Rattle.scald_base.specs.Time.{period}
 use Rattle.element_kinds.specs.declared.form.Check.{Check}
 use Rattle.element_kinds.specs.declared.form.Check.TheVariants.{SetupHold as AboutRise, RiseFall as RiseToFall, MinPulse as Widths}
 use Rattle.element_kinds.specs.Kinds.{check_of, may_be_marked}
@@ -19,6 +20,7 @@ use Rattle.slack_rows.specs.declared.parameter.Word.TheVariants.{Setup, Hold, Hi
 use Rattle.slack_rows.specs.declared.parameter.Parameter.{Parameter}
 use Rattle.slack_rows.specs.declared.parameter.Subject.{Subject}
 use Rattle.slack_rows.specs.declared.parameter.Subject.TheVariants.{Instance as OfInstance, Net as OfNet}
+use Rattle.slack_rows.specs.Window.{Window}
 use Rattle.slack_rows.specs.Limit.{Case, Worst, beside, has_slack, least_told, worst}
 
 -- ---- which limits there are
@@ -33,7 +35,7 @@ abbrev pub if_some : {A : Type 0} → List A → List Limit → List Limit
 if_some [] limits = []
 if_some (x ∷ xs) limits = limits
 
--- a marked gate has some only where another pin is on a net
+-- a marked gate has some only if another pin is on a net
 abbrev pub limits_of_mark : Instance → Option ℕ → List Limit
 limits_of_mark j None = []
 limits_of_mark j (Some marked) = if_some (beside j marked) (Gate ∷ GateBefore ∷ GateAfter ∷ [])
@@ -104,7 +106,7 @@ row c cases subject limit =
 abbrev pub slack_of : Row → Slack
 slack_of r = r.worst.told.slack
 
--- ---- told once
+-- ---- reported once
 
 -- the limit on the other side of the same edges, which comes before this one
 abbrev pub partner : Limit → Option Limit
@@ -129,15 +131,21 @@ abbrev pub first_with : Circuit → List Case → Subject → Limit → ℕ
 first_with c cases subject limit =
     first_where (has_slack c subject limit (least_told c cases subject limit).slack) cases
 
-abbrev pub same_region : Region → Region → Bool
-same_region r s = (r.first == s.first) && (r.last == s.last)
+-- They are one region, or the same whole periods apart, of a period of p ticks.
+abbrev pub same_region : ℕ → Region → Region → Bool
+same_region p r s = (r.first % p == s.first % p) && (r.last + s.first == s.last + r.first)
 
--- The end of a region before an edge, and its begin after that edge or a later one: it would do
--- earlier or later. Where it is early after one edge and late for a later one, what mends the one
--- makes the other worse.
-abbrev pub are_one_region : Place → Place → Bool
-are_one_region (At v r) (At w s) = nat_le v.opens w.opens && same_region r s
-are_one_region before after = false
+-- how long after the begin of a region a window opens
+abbrev pub opens_after : Region → Window → ℤ
+opens_after r w = pos w.opens -ℤ pos r.first
+
+-- The end of a region before an edge, and its begin after that edge or a later one, whichever the
+-- periods in which they are counted: it would do earlier or later. Where it is early after one edge
+-- and late for a later one, what mends the one makes the other worse.
+abbrev pub are_one_region : ℕ → Place → Place → Bool
+are_one_region p (At v r) (At w s) =
+    int_le (opens_after r v) (opens_after s w) && same_region p r s
+are_one_region p before after = false
 
 abbrev pub have_no_number : Slack → Slack → Bool
 have_no_number NoNumber NoNumber = true
@@ -147,20 +155,21 @@ abbrev pub is_same_pin : Told → Told → Bool
 is_same_pin a b = (a.pin == b.pin) && same_direction a.direction b.direction
 
 -- Neither has a number, or both are broken by one region of changes in one case.
-abbrev pub reported_once : Bool → Told → Told → Bool
-reported_once in_one_case before after =
+abbrev pub reported_once : ℕ → Bool → Told → Told → Bool
+reported_once p in_one_case before after =
     have_no_number before.slack after.slack
     || (is_broken before.slack && (is_broken after.slack
     && (in_one_case && (is_same_pin before after
-    && are_one_region before.place after.place))))
+    && are_one_region p before.place after.place))))
 
 abbrev pub is_reported_by : Circuit → List Case → Row → Option Limit → Bool
 is_reported_by c cases r None = false
 is_reported_by c cases r (Some before) =
-    reported_once (first_with c cases r.subject before == first_with c cases r.subject r.limit)
+    reported_once (period c.header)
+    (first_with c cases r.subject before == first_with c cases r.subject r.limit)
     (least_told c cases r.subject before) r.worst.told
 
--- the row before it tells it already
+-- it is in the row before it already
 abbrev pub is_reported : Circuit → List Case → Row → Bool
 is_reported c cases r = is_reported_by c cases r (partner r.limit)
 
@@ -179,7 +188,7 @@ abbrev pub all_rows : Circuit → List Case → List Row
 all_rows c cases =
     flat_map (λ subject. map (row c cases subject) (limits_of c subject)) (subjects c)
 
--- a row for each limit that something may break and that no other row tells
+-- a row for each limit that something may break and that is in no other row
 abbrev pub own_rows : Circuit → List Case → List Row
 own_rows c cases =
     filter (λ r. not (is_free (slack_of r)) && not (is_reported c cases r)) (all_rows c cases)

@@ -1,12 +1,22 @@
 -- Which paths a slack comes from: at which ticks they show, and which end of a region each of them
 -- explains.
-use Rattle.std.specs.Prelude.{◌≡◌, ℤ, pos, ◌+ℤ◌, Bool, true, false, List, IfSome, Option, Some, None}
+use Rattle.std.specs.Prelude.{◌≡◌, ℕ, slice_get, ℤ, pos, ◌+ℤ◌, Bool, true, false, List, IfSome, Option, Some, None}
+use Rattle.std.specs.Option.{option_map}
+use Rattle.scald_base.specs.Time.{period}
+use Rattle.flat_circuit.specs.declared.instance.Instance.{Instance}
+use Rattle.flat_circuit.specs.Circuit.{Circuit}
+use Rattle.fixpoint_engine.specs.Waves.{Waves}
 use Rattle.critical_paths.specs.declared.direction.Corner.{Corner}
 use Rattle.critical_paths.specs.declared.direction.Corner.TheVariants.{Late as LateCorner, Early as EarlyCorner}
+use Rattle.critical_paths.specs.declared.direction.Direction.{Direction}
+use Rattle.critical_paths.specs.declared.event.PinEvent.{PinEvent}
 use Rattle.critical_paths.specs.declared.path.At.{At}
 use Rattle.critical_paths.specs.declared.path.Node.{Node}
 use Rattle.critical_paths.specs.Event.{other_corner}
-use Rattle.critical_paths.specs.Known.{corner_in}
+use Rattle.critical_paths.specs.Known.{corner_in, path_at}
+use Rattle.critical_paths.specs.Tick.{slot_of}
+use Rattle.critical_paths.specs.Walk.{pin_path_on}
+use Rattle.slack_rows.specs.declared.held.Held.{Held}
 use Rattle.slack_rows.specs.declared.parameter.Subject.{Subject}
 use Rattle.slack_rows.specs.declared.parameter.Subject.TheVariants.{Instance as OfInstance, Net as OfNet}
 use Rattle.slack_rows.specs.declared.parameter.Word.{Word as Limit}
@@ -43,6 +53,27 @@ ShowAt (OfInstance number) word found changes clock =
     × (ShowsAt (clock_tick (is_of_width word) (corner_of word) found) clock)
 ShowAt (OfNet number) word found changes clock =
     (IfSome changes (λ at. at.tick ≡ found.tick)) × (clock ≡ None)
+
+-- ---- of which steps
+
+-- it is the path of a step of a pin, where the waves permit one
+abbrev pub IsPathOf : Circuit → Waves → List Node → PinEvent → Option At → Type 0
+IsPathOf c ws nodes e found =
+    option_map (path_at nodes) found
+    ≡ option_map Some (pin_path_on c ws e.corner (slot_of (period c.header) e.tick) e.direction
+    e.pin.inverted e.pin.target)
+
+-- the change of the data
+abbrev pub change_told : Held → Corner → Found → PinEvent
+change_told held corner found =
+    record { pin = held.pin; direction = found.direction; tick = found.tick; corner = corner }
+
+-- a pin of an instance is held against the steps of another one
+pub record IsHeldAt (j : Instance) (pin clock : ℕ) (opens : Direction) (held : Held) :
+    Type 0 where
+  pub own : slice_get j.pins pin ≡ Some held.pin
+  pub against : slice_get j.pins clock ≡ Some held.clock
+  pub step : held.opens ≡ opens
 
 -- ---- which end they explain
 

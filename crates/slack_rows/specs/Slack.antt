@@ -7,7 +7,7 @@ use Rattle.critical_paths.specs.Region.{Region, first_from, last_up_to, region_f
 use Rattle.slack_rows.specs.Window.{Window, Side, Either, begins_before, ends_after, counts_before, counts_after, met}
 
 -- What is to spare before a limit is broken: nothing can break it; so many ticks, which are lacking
--- where there are less than 0; the same of the longest or shortest way alone, where the data may
+-- if there are less than 0; the same of the longest or shortest way alone, if the data may
 -- change at any tick; or it is broken, and there is no number.
 pub data Slack : Type 0 where
   Free : Slack
@@ -81,7 +81,7 @@ is_above a b = broken_first is_lower a b
 
 -- What launches say of the changes in a window: of which side those of a region are, and where two
 -- launches meet in one region, the last change of the first and the first change of the second.
--- Where a change may come in every slot they may tell the slack of the longest way before the edge,
+-- Where a change may come in every slot they may give the slack of the longest way before the edge,
 -- and that of the shortest after it.
 pub record Launches : Type 0 where
   pub side : Window → Region → Side
@@ -115,7 +115,7 @@ if_inside w (Some ticks) = if are_inside w ticks then Some ticks else None
 abbrev pub is_open : Window → Region → Bool
 is_open w r = if begins_before w r then ends_after w r else not (ends_after w r)
 
--- Two launches count only where they meet in the one region that meets the window, and break it.
+-- Two launches count only if they meet in the one region that meets the window, and break it.
 abbrev pub two_launches : Launches → Window → List Region → Option (ℕ × ℕ)
 two_launches launches w [] = None
 two_launches launches w (r ∷ []) = if is_open w r then if_inside w (launches.two w r) else None
@@ -130,7 +130,7 @@ two_alone two w (r ∷ s ∷ more) = false
 abbrev pub two_in : ℕ → Events → (Window → Region → Bool) → Window → Bool
 two_in p ev two w = two_alone two w (met p ev w)
 
--- ---- what is told of a window
+-- ---- the slacks of a window
 
 -- Where a slack is: nowhere in particular; at the end of a region of changes by a window; at an
 -- arrival by one, of two launches; in a pulse, by its begin and width; at a level in a slot.
@@ -170,7 +170,7 @@ abbrev pub after_at : ℕ → Events → Window → Option ℕ → Told
 after_at p ev w None = told_alone Free
 after_at p ev w (Some t) = told_at (Ticks (pos t -ℤ pos (w.closes + 1))) (At w (region_from p ev t))
 
--- By two launches, where there are two; or else by the regions.
+-- By two launches, if there are two; or else by the regions.
 abbrev pub before_by : ℕ → Events → Window → Option (ℕ × ℕ) → Option ℕ → Told
 before_by p ev w None last = before_at p ev w last
 before_by p ev w (Some ticks) last =
@@ -191,7 +191,7 @@ after_window p ev launches w =
 
 -- ---- the least of several
 
--- of two the second only where it is less
+-- of two the second only if it is less
 abbrev pub lesser : Told → Told → Told
 lesser best told = if is_less told.slack best.slack then told else best
 
@@ -204,7 +204,7 @@ least_from best (told ∷ more) =
 abbrev pub least : List Told → Told
 least tellings = least_from (told_alone Free) tellings
 
--- ---- what is told of a watch
+-- ---- the slacks of a watch
 
 -- Data, and the windows in which it is not to change, of a period of p ticks; or it is never to
 -- change.
@@ -228,7 +228,7 @@ abbrev pub without_number : Bool → Option ℤ → Slack
 without_number true way = NoNumber
 without_number false way = by_way way
 
--- No change is none; where it may come in every slot, or is never to come, there is no number of
+-- No change is none; if it may come in every slot, or is never to come, there is no number of
 -- the wave.
 abbrev pub told_by : (Window → Told) → Option ℤ → ℕ → Watch → Told
 told_by at way p watch =

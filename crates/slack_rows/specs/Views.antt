@@ -1,5 +1,5 @@
--- What the program tells, in the words of the definitions.
-use Rattle.std.specs.Prelude.{◌≡◌, ℕ, ◌*◌, not, Bool, true, false, ℤ, pos, ◌+ℤ◌, ◌-ℤ◌, ◌≤ℤ◌, unsigned_abs, if◌then◌else◌, Option, Some, None}
+-- The program's slacks, in the words of the definitions.
+use Rattle.std.specs.Prelude.{◌≡◌, ℕ, ◌*◌, ◌^◌, nat_le, not, ◌&&◌, Bool, true, false, ℤ, pos, ◌+ℤ◌, ◌-ℤ◌, ◌≤ℤ◌, unsigned_abs, if◌then◌else◌, Option, Some, None}
 use Rattle.element_kinds.specs.declared.form.Check.{Check}
 use Rattle.element_kinds.specs.declared.form.Check.TheVariants.{SetupHold as AboutRise, RiseFall as RiseToFall, MinPulse as Widths}
 use Rattle.critical_paths.specs.declared.direction.Corner.{Corner}
@@ -8,6 +8,7 @@ use Rattle.critical_paths.specs.declared.direction.Direction.{Direction}
 use Rattle.critical_paths.specs.declared.direction.Direction.TheVariants.{Rise, Fall, Change}
 use Rattle.critical_paths.specs.declared.region.Region.{Region as Ticked}
 use Rattle.critical_paths.specs.Region.{Region}
+use Rattle.critical_paths.specs.Tick.{slot_of}
 use Rattle.slack_rows.specs.declared.parameter.Word.{Word as Limit}
 use Rattle.slack_rows.specs.declared.parameter.Word.TheVariants.{Setup, Hold, High, Low, Gate, Before as GateBefore, After as GateAfter, Assert, From as StableFrom, To as StableTo}
 use Rattle.slack_rows.specs.declared.slack.Slack.{Slack as Number}
@@ -21,6 +22,7 @@ use Rattle.slack_rows.specs.declared.slack.Slacks.{Slacks}
 use Rattle.slack_rows.specs.declared.slack.Told.{Told as Found}
 use Rattle.slack_rows.specs.declared.around.Side.{Side as Counted}
 use Rattle.slack_rows.specs.declared.around.Side.TheVariants.{Before as LiesBefore, Late as CountsLate, Early as CountsEarly, Either as CountsEither, Two as CountsTwo, After as LiesAfter}
+use Rattle.slack_rows.specs.declared.table.Shape.{Shape}
 use Rattle.slack_rows.specs.declared.window.Window.{Window as Around}
 use Rattle.slack_rows.specs.declared.window.Extent.{Extent}
 use Rattle.slack_rows.specs.Window.{Window, Side, Late, Early, Either, extent_of}
@@ -51,7 +53,7 @@ ticks_of (NumberOfWay n) = n
 abbrev pub rank_of : Number → Rank
 rank_of slack = record { is_met = not (is_broken (slack_by slack)); ticks = number_of slack }
 
--- of two the second only where it is less
+-- of two the second only if it is less
 abbrev pub lesser_found : Option Found → Option Found → Option Found
 lesser_found best found = if is_less (slack_told found) (slack_told best) then found else best
 
@@ -121,15 +123,27 @@ told_by_found p found =
       direction = found.direction;
     }
 
+-- a window and a region near the period in which its edge begins
+abbrev pub is_close : ℤ → Bool
+is_close tick = nat_le (unsigned_abs tick) (2 ^ 20)
+
+abbrev pub are_close : Around → Ticked → Bool
+are_close w r = is_close w.from && (is_close r.first && is_close r.last)
+
 -- A number by a region. The region and its window do not begin before the ticks that the
 -- definitions count, so that two of them compare as the definitions say.
 pub record IsByRegion (p : ℕ) (found : Found) (r : Ticked) : Type 0 where
+  pub near : are_close found.window r ≡ true
   pub number : (n : ℤ) × (found.slack ≡ NumberOfTicks n)
   pub opens : pos 0 ≤ℤ (pos (3 * p) +ℤ (found.window.from -ℤ pos 1))
   pub first : pos 0 ≤ℤ (pos (3 * p) +ℤ r.first)
   pub last : pos 0 ≤ℤ (pos (3 * p) +ℤ r.last)
 
--- the region that it is told by, if it is told by one
+-- in which slot of a period of p a region begins, and how many ticks come after that
+abbrev pub shape_in : ℕ → Ticked → Shape
+shape_in p r = record { slot = slot_of p r.first; ticks = r.last -ℤ r.first }
+
+-- the region that it comes from, if it comes from one
 abbrev pub region_told : By → Option Ticked
 region_told (ByRegion region) = Some region
 region_told (ByWay node) = None
@@ -152,7 +166,7 @@ pub record IsTold (p : ℕ) (found : Found) (told : Told) : Type 0 where
   pub is : told ≡ told_by_found p found
   pub near : IsNear p found found.by
 
--- What the program has is what is told: where nothing can break, nothing.
+-- The program's slack is the defined one: if nothing can break, none.
 abbrev pub Tells : ℕ → Option Found → Told → Type 0
 Tells p None told = told.slack ≡ Free
 Tells p (Some found) told = IsTold p found told

@@ -23,7 +23,7 @@ use Rattle.slack_rows.specs.Slack.{Watch}
 
 -- ---- about the rise of a clock
 
--- a window about each region in which the clock may rise; no change where it may rise in every slot
+-- a window about each region in which the clock may rise; no change if it may rise in every slot
 abbrev pub rise_watch : ℕ → Extent → Folds → Folds → Watch
 rise_watch p extent clock input =
     record {
@@ -34,7 +34,7 @@ rise_watch p extent clock input =
 
 -- ---- from the rise of a clock to its fall
 
--- how long after a rise at a tick the clock falls at last, where it cannot stay high for a period
+-- how long after a rise at a tick the clock falls at last, if it cannot stay high for a period
 abbrev pub fall_within : Folds → ℕ → Option ℕ → Option ℕ
 fall_within clock t None = None
 fall_within clock t (Some low) = option_map (λ high. t + high) (last_fall clock t low)
@@ -62,7 +62,7 @@ span_at p clock t = span_by p clock t (fall_of p clock t)
 abbrev pub spans : ℕ → Folds → List Region
 spans p clock = filter_map (span_at p clock) (range_with_len 0 p)
 
--- The same by how long the clock is high after the rise, and after one in the slot before: where
+-- The same by how long the clock is high after the rise, and after one in the slot before: if
 -- that is one slot more, both have their last fall at one tick.
 abbrev pub follows : Option ℕ → ℕ → Bool
 follows None high = false
@@ -77,7 +77,7 @@ span_told t before (Some high) =
 abbrev pub may_stay_high : ℕ → Folds → Bool
 may_stay_high p clock = is_none (first_low p clock 0)
 
--- a window from each such rise to its fall; no change where the clock may stay high for a period,
+-- a window from each such rise to its fall; no change if the clock may stay high for a period,
 -- if it rises and falls at all
 abbrev pub span_watch : ℕ → Extent → Folds → Folds → Watch
 span_watch p extent clock input =
@@ -94,7 +94,7 @@ span_watch p extent clock input =
 abbrev pub opens : Kind → Folds → Events
 opens kind mark t = not (is_closed kind (mark t))
 
--- the window is while the mark lets a pin through, and no change where it always does
+-- the window is while the mark lets a pin through, and no change if it always does
 abbrev pub gate_watch : ℕ → Kind → Folds → Folds → Watch
 gate_watch p kind mark pin =
     record {
@@ -120,7 +120,7 @@ permitted h spec = read (wide_wave h spec)
 abbrev pub forbids : Header → AssertSpec → Direction → Events
 forbids h spec d t = not (moves d (has (permitted h spec t)))
 
--- the window is while it does not, and no change where it never does
+-- the window is while it does not, and no change if it never does
 abbrev pub net_watch : Header → AssertSpec → Folds → Direction → Watch
 net_watch h spec found d =
     record {

@@ -27,12 +27,12 @@ pub record Guard : Type 0 where
 -- ---- a launch and its edge, of a clock that repeats each period
 
 -- how long after a launch the next such edge comes: by a period at most
-abbrev pub until_next : ℕ → Arrival → Guard → ℤ
-until_next p a g = pos 1 +ℤ int_rem_euclid (g.edge -ℤ a.edge -ℤ pos 1) (pos p)
+abbrev pub until_next : ℕ → ℤ → ℤ → ℤ
+until_next p launch edge = int_rem_euclid (edge -ℤ (launch +ℤ pos 1)) (pos p) +ℤ pos 1
 
 -- how long before a launch the last such edge came, which may be the launch's own
-abbrev pub since_last : ℕ → Arrival → Guard → ℤ
-since_last p a g = int_rem_euclid (a.edge -ℤ g.edge) (pos p)
+abbrev pub since_last : ℕ → ℤ → ℤ → ℤ
+since_last p launch edge = int_rem_euclid (launch -ℤ edge) (pos p)
 
 -- how long after its launch it arrives
 abbrev pub takes : Arrival → ℤ
@@ -47,10 +47,10 @@ ends_after g = pos (g.window.closes + 1) -ℤ g.edge
 
 -- what it has to spare before the window of the next edge, and after that of the last
 abbrev pub before_next : ℕ → Arrival → Guard → ℤ
-before_next p a g = until_next p a g +ℤ opens_after g -ℤ takes a
+before_next p a g = until_next p a.edge g.edge +ℤ opens_after g -ℤ takes a
 
 abbrev pub after_last : ℕ → Arrival → Guard → ℤ
-after_last p a g = since_last p a g +ℤ takes a -ℤ ends_after g
+after_last p a g = since_last p a.edge g.edge +ℤ takes a -ℤ ends_after g
 
 -- ---- the least of all
 
@@ -69,11 +69,13 @@ least_of (n ∷ more) = Some (fold lesser n more)
 -- over every arrival and the edge next to its launch
 abbrev pub least_before : ℕ → List Arrival → List Guard → Option ℤ
 least_before p arrivals guards =
-    least_of (flat_map (λ a. map (before_next p a) (nearest (until_next p a) guards)) arrivals)
+    least_of (flat_map
+    (λ a. map (before_next p a) (nearest (λ g. until_next p a.edge g.edge) guards)) arrivals)
 
 abbrev pub least_after : ℕ → List Arrival → List Guard → Option ℤ
 least_after p arrivals guards =
-    least_of (flat_map (λ a. map (after_last p a) (nearest (since_last p a) guards)) arrivals)
+    least_of (flat_map
+    (λ a. map (after_last p a) (nearest (λ g. since_last p a.edge g.edge) guards)) arrivals)
 
 -- ---- the edges of a checker's clock
 
@@ -115,7 +117,7 @@ guards c ws j closing corner [] = Some []
 guards c ws j closing corner (w ∷ windows) =
     with_guard (guard c ws j closing corner w) (guards c ws j closing corner windows)
 
--- ---- of the input at pin 1 of a checker, where all ways to it and all edges are known
+-- ---- of the input at pin 1 of a checker, if all ways to it and all edges are known
 
 -- The longest ways, before the windows of a clock at its earliest.
 abbrev pub last_way : Circuit → Waves → Instance → Direction → List Window → Option ℤ

@@ -84,7 +84,7 @@ fn first_beyond<W: CyclicWave<Item = Value>>(fold: &W, wide: &W) -> Option<u16>
     None
 }
 
-/// The first slot at which a net may be at a level that it may not have, where it makes no step
+/// The first slot at which a net may be at a level that it may not have, if it makes no step
 /// that it may not make.
 fn first_level<W: CyclicWave<Item = Value>>(fold: &W, wide: &W) -> Option<Reason>
     requires { length (W.cells wide.now) ≡ length (W.cells fold.now) }

@@ -2,13 +2,17 @@
 
 ghost use Rattle.std.specs.Prelude.{◌≡◌, ℕ, ◌^◌, IfOk, IfSome, None, OnOk, false, slice_get};
 ghost use Rattle.std.specs.List.{All};
-ghost use Rattle.fixpoint_engine.specs.Waves.{waves_of};
+ghost use Rattle.gate_eval.specs.Hold.{closed_bit};
+ghost use Rattle.fixpoint_engine.specs.Waves.{marked_pin as marked_in, target_wire, waves_of};
+ghost use Rattle.critical_paths.specs.declared.direction.Direction.TheVariants.{Rise};
 ghost use Rattle.critical_paths.specs.Event.{other_corner};
+ghost use Rattle.critical_paths.specs.Path.{bound};
 ghost use Rattle.critical_paths.specs.Tick.{IsWithin};
 ghost use Rattle.critical_paths.specs.Known.{Knows};
 ghost use Rattle.critical_paths.specs.Views.{IsPin, Sees};
-ghost use Rattle.slack_rows.specs.Held.{GoesOn, IsHeld};
-ghost use Rattle.slack_rows.specs.Shown.{ExplainAt, ExplainEnds, Explains, ShowAt, ShowsAt, clock_tick, data_tick, edge_tick, is_by_paths};
+ghost use Rattle.slack_rows.specs.Held.{GoesOn, IsHeld, step_held};
+ghost use Rattle.slack_rows.specs.Launched.{opening};
+ghost use Rattle.slack_rows.specs.Shown.{ExplainAt, ExplainEnds, Explains, IsHeldAt, IsPathOf, ShowAt, ShowsAt, change_told, clock_tick, data_tick, edge_tick, is_by_paths};
 ghost use Rattle.slack_rows.specs.Views.{corner_of, is_of_width};
 
 use crate::checker::held_by;
@@ -17,6 +21,7 @@ use crate::held::Held;
 use crate::limits::marked_pin;
 use crate::parameter::{Parameter, Subject};
 use crate::slack::{By, Told};
+use crate::window::Window;
 use critical_paths::{At, Corner, Event, Paths, PinEvent, Reading, View};
 use fixpoint_engine::wire_behind;
 use flat_circuit::Instance;
@@ -43,7 +48,9 @@ impl Causes {
 }
 
 /// The bound of a delay.
-fn bound_of(corner: Corner, delay: &Delay) -> u16 {
+fn bound_of(corner: Corner, delay: &Delay) -> u16
+    ensures { result ≡ bound corner delay.now }
+{
     delay.known();
     corner.bound(*delay)
 }
@@ -95,6 +102,10 @@ fn held_of(instance: &Instance, place: u16) -> Option<Held>
         (k : ℕ) × (slice_get instance.now.pins k ≡ Some held.pin)) }
     ensures clock { IfSome result (λ held.
         (k : ℕ) × (slice_get instance.now.pins k ≡ Some held.clock)) }
+    ensures beside { (marked : ℕ) → marked_in instance.now ≡ Some marked → IfSome result
+        (λ held. IsHeldAt instance.now place marked (opening (closed_bit instance.now.kind)) held) }
+    ensures check { marked_in instance.now ≡ None → IfSome result
+        (IsHeldAt instance.now 1 0 Rise) }
 {
     let count = instance.pins.len();
     let number = usize::from(place);
@@ -107,7 +118,60 @@ fn held_of(instance: &Instance, place: u16) -> Option<Held>
     }
 }
 
-/// The path of the data: the way that was told, or that of the change.
+/// The path of the change that a slack comes from.
+fn change_path<W: CyclicWave<Item = Value>>(
+    view: &View<W>,
+    paths: &mut Paths,
+    held: Held,
+    corner: Corner,
+    told: Told,
+) -> Result<Option<At>, NoMemory>
+    requires sees { Sees view.now.circuit.now view.now.waves.now view.now.hazards.now }
+    requires knows { Knows view.now.circuit.now (waves_of view.now.waves.now) paths.old.nodes
+        paths.old.met.entries }
+    requires held { IsHeld view.now.circuit.now held }
+    requires tick { IsWithin (2 ^ 44) told.tick }
+    ensures paths { OnOk result (GoesOn view.now.circuit.now (waves_of view.now.waves.now)
+        paths.old.nodes paths.new.nodes paths.new.met.entries) }
+    ensures tick { IfOk result (ShowsAt told.tick) }
+    ensures is { IfOk result (IsPathOf view.now.circuit.now (waves_of view.now.waves.now)
+        paths.new.nodes (change_told held corner told)) }
+{
+    let change = PinEvent {
+        pin: held.pin,
+        direction: told.direction,
+        tick: told.tick,
+        corner,
+    };
+    let path = view.pin_path(paths, change)?;
+    Ok(path)
+}
+
+/// A way of the data to a tick at its pin: it comes to the net by a wire sooner.
+fn way_path<W: CyclicWave<Item = Value>>(
+    view: &View<W>,
+    held: Held,
+    corner: Corner,
+    node: usize,
+    tick: i64,
+) -> At
+    requires sees { Sees view.now.circuit.now view.now.waves.now view.now.hazards.now }
+    requires tick { IsWithin (2 ^ 44) tick }
+    ensures shows { ShowsAt tick (Some result) }
+    ensures node { result.node ≡ node }
+    ensures wire { result.wire
+        ≡ bound corner (target_wire view.now.circuit.now.nets held.pin.target) }
+{
+    let bounds = wire_behind(view.circuit, held.pin.target);
+    let wire = bound_of(corner, &bounds);
+    At {
+        node,
+        tick: tick - i64::from(wire),
+        wire,
+    }
+}
+
+/// The path of the data: the way that the slack comes from, or that of the change.
 fn data_path<W: CyclicWave<Item = Value>>(
     view: &View<W>,
     paths: &mut Paths,
@@ -125,19 +189,35 @@ fn data_path<W: CyclicWave<Item = Value>>(
     ensures tick { IfOk result (ShowsAt told.tick) }
 {
     if let By::Way(node) = told.by {
-        let bounds = wire_behind(view.circuit, held.pin.target);
-        let wire = bound_of(corner, &bounds);
-        let tick = told.tick - i64::from(wire);
-        return Ok(Some(At { node, tick, wire }));
+        return Ok(Some(way_path(view, held, corner, node, told.tick)));
     }
-    let change = PinEvent {
-        pin: held.pin,
-        direction: told.direction,
-        tick: told.tick,
-        corner,
-    };
-    let data = view.pin_path(paths, change)?;
+    let data = change_path(view, paths, held, corner, told)?;
     Ok(data)
+}
+
+/// The path of the step that data is held against.
+fn edge_path<W: CyclicWave<Item = Value>>(
+    view: &View<W>,
+    paths: &mut Paths,
+    held: Held,
+    corner: Corner,
+    window: Window,
+) -> Result<Option<At>, NoMemory>
+    requires sees { Sees view.now.circuit.now view.now.waves.now view.now.hazards.now }
+    requires knows { Knows view.now.circuit.now (waves_of view.now.waves.now) paths.old.nodes
+        paths.old.met.entries }
+    requires held { IsHeld view.now.circuit.now held }
+    requires first { IsWithin (2 ^ 44) window.first }
+    requires last { IsWithin (2 ^ 44) window.last }
+    ensures paths { OnOk result (GoesOn view.now.circuit.now (waves_of view.now.waves.now)
+        paths.old.nodes paths.new.nodes paths.new.met.entries) }
+    ensures tick { IfOk result (ShowsAt (edge_tick corner window)) }
+    ensures corner { IfOk result (Explains paths.new.nodes (other_corner corner)) }
+    ensures is { IfOk result (IsPathOf view.now.circuit.now (waves_of view.now.waves.now)
+        paths.new.nodes (step_held held window corner)) }
+{
+    let path = view.pin_path(paths, held.edge(window, corner))?;
+    Ok(path)
 }
 
 /// The paths of an instance's limit that is no width: of the data and of its clock or mark.
@@ -165,7 +245,7 @@ fn held_paths<W: CyclicWave<Item = Value>>(
     let Some(held) = held_of(instance, told.pin) else {
         return Ok(Causes::NONE);
     };
-    let clock = view.pin_path(paths, held.edge(told.window, corner))?;
+    let clock = edge_path(view, paths, held, corner, told.window)?;
     let data = data_path(view, paths, held, corner, told)?;
     Ok(Causes { data, clock })
 }
@@ -237,8 +317,8 @@ fn instance_paths<W: CyclicWave<Item = Value>>(
     held_paths(view, paths, instance, parameter.word.corner(), told)
 }
 
-/// Whether a slack comes of paths: it has a number, and that is not one of quiet ticks or of a pulse
-/// that may change more than once.
+/// Whether a slack comes of paths: it has a number, and that is not one of quiet ticks or of a
+/// pulse that may change more than once.
 fn comes_of_paths(by: By) -> bool
     ensures { result ≡ is_by_paths by }
 {
@@ -248,7 +328,7 @@ fn comes_of_paths(by: By) -> bool
     }
 }
 
-/// The paths of a slack; none where it has no number, or its number is not one of paths.
+/// The paths of a slack; none if it has no number, or its number is not one of paths.
 pub fn causes_of<W: CyclicWave<Item = Value>>(
     view: &View<W>,
     paths: &mut Paths,

@@ -101,7 +101,7 @@ fn at_rest(kind: Kind) -> Value
     }
 }
 
-/// The slacks of the pin in a place, where it is beside the marked one and on a net.
+/// The slacks of the pin in a place, if it is beside the marked one and on a net.
 fn beside_if<W: CyclicWave<Item = Value>>(
     view: &View<W>,
     paths: &mut Paths,

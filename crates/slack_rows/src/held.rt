@@ -2,7 +2,8 @@
 //! name asserts.
 
 ghost use Rattle.std.specs.Prelude.{◌≡◌};
-ghost use Rattle.slack_rows.specs.Held.{place_in, step_held, told_by_arrival};
+ghost use Rattle.slack_rows.specs.Arrived.{told_by_arrival};
+ghost use Rattle.slack_rows.specs.Held.{place_in, step_held};
 
 use crate::slack::{By, Slack, Told};
 use crate::window::{Extent, Window};

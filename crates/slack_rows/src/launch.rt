@@ -46,7 +46,7 @@ pub fn step_path<W: CyclicWave<Item = Value>>(
     Ok(found)
 }
 
-/// How many ticks before the clock the data is launched, where both have paths from one clock.
+/// How many ticks before the clock the data is launched, if both have paths from one clock.
 fn ago_if(paths: &Paths, data: Option<At>, clock: Option<At>) -> Option<i64>
     requires own { IsNearPath paths.now.nodes «data» }
     requires clock { IsNearPath paths.now.nodes clock }
@@ -129,7 +129,7 @@ fn by_launch<W: CyclicWave<Item = Value>>(
     Ok(side_by(last, first))
 }
 
-/// For what a region counts that covers a window or lies in it, where it may be held.
+/// For what a region counts that covers a window or lies in it, if it may be held.
 pub fn by_launch_if<W: CyclicWave<Item = Value>>(
     view: &View<W>,
     paths: &mut Paths,

@@ -4,9 +4,9 @@
 //! `specs/Window` says in which ticks data is not to change, and on which side of an edge a change
 //! in them counts; `specs/Slack` how many ticks that leaves; `specs/Watch` and `specs/Pulse` what
 //! each checker, mark and assertion watches; `specs/Limit` the slack of a limit over all cases,
-//! `specs/Rows` which limits there are and in which order they are told, and `specs/Laws` that a
-//! limit is broken exactly where there is a fault. `specs/Views`, `specs/Held` and `specs/Arrived`
-//! say what the program's own types mean in these words, `specs/Known` what [`Rows`] knows over some
+//! `specs/Rows` which limits there are and in which order they stand, and `specs/Laws` that a
+//! limit is broken exactly if there is a fault. `specs/Views`, `specs/Held` and `specs/Arrived` say
+//! what the program's own types mean in these words, `specs/Known` what [`Rows`] knows over some
 //! cases, `specs/Shown` which end of a region each path of a slack explains.
 //!
 //! The layer above makes [`Rows`] of a circuit and adds case after case.
@@ -25,6 +25,7 @@ mod two;
 
 // slacks without a region
 mod guard;
+mod nearest;
 mod quiet;
 mod ways;
 

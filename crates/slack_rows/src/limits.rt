@@ -51,7 +51,7 @@ pub fn is_held(net: &Net) -> bool
     net.driver.is_some() && !matches!(net.spec.or(&AssertSpec::None), AssertSpec::None)
 }
 
-/// The limits of a gate with a marked pin: none where no other one is on a net.
+/// The limits of a gate with a marked pin: none if no other one is on a net.
 fn words_beside(gate: &Instance, marked: usize) -> &'static [Word]
     ensures { result.now ≡ limits_of_mark gate.now (Some marked) }
 {
@@ -90,7 +90,7 @@ fn words_of_net(net: &Net) -> &'static [Word]
     }
 }
 
-/// What a limit asks for, in ticks; 0 where it has no number.
+/// What a limit asks for, in ticks; 0 if it has no number.
 fn limit_of(limits: Limits, word: Word) -> u16
     ensures { result ≡ ticks_asked limits word }
 {

@@ -36,7 +36,7 @@ pub enum Word {
 }
 
 impl Word {
-    /// Which end of the data's changes counts: the last, where they are to come before something.
+    /// Which end of the data's changes counts: the last, if they are to come before something.
     pub fn corner(self) -> Corner
         ensures { result ≡ corner_of self }
     {
@@ -55,7 +55,7 @@ impl Word {
     }
 }
 
-/// A limit, in ticks where it has a number.
+/// A limit, in ticks if it has a number.
 #[derive(Clone, Copy)]
 pub struct Parameter {
     pub subject: Subject,

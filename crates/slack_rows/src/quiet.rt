@@ -14,7 +14,7 @@ use critical_paths::{Direction, Region};
 use step_values::Value;
 use wave_core::{Cell, CyclicWave};
 
-/// How many slots up to this one have no change, itself among them; `None` where none has one.
+/// How many slots up to this one have no change, itself among them; `None` if none has one.
 fn quiet_before<W: CyclicWave<Item = Value>>(input: &W, slot: u16) -> Option<u16>
     requires { slot < length (W.cells input.now) }
     ensures { result
@@ -30,7 +30,7 @@ fn quiet_before<W: CyclicWave<Item = Value>>(input: &W, slot: u16) -> Option<u16
     None
 }
 
-/// How many slots after this one have no change; `None` where none has one.
+/// How many slots after this one have no change; `None` if none has one.
 fn quiet_after<W: CyclicWave<Item = Value>>(input: &W, slot: u16) -> Option<u16>
     requires { slot < length (W.cells input.now) }
     ensures { result

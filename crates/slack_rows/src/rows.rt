@@ -1,6 +1,7 @@
 //! The least slack of each limit over more and more cases.
 
-ghost use Rattle.std.specs.Prelude.{◌≡◌, ◌+◌, ◌++◌, ◌∷◌, [], IfOk, OnOk, List, None, length, replicate, reverse};
+ghost use Rattle.std.specs.Prelude.{◌≡◌, ◌<◌, ◌+◌, ◌++◌, ◌∷◌, [], IfOk, OnOk, List, None, length, replicate, reverse};
+ghost use Rattle.scald_base.specs.Time.{period as period_of};
 ghost use Rattle.fixpoint_engine.specs.Waves.{waves_of};
 ghost use Rattle.critical_paths.specs.Known.{Knows};
 ghost use Rattle.critical_paths.specs.Views.{Sees};
@@ -40,14 +41,17 @@ pub struct Least {
 #[derive(Drop)]
 pub struct Rows {
     pub parameters: Parameters,
-    /// Of each limit; none where nothing can break it.
+    /// Of each limit; none if nothing can break it.
     pub least: List<Option<Least>>,
     /// All paths.
     pub paths: Paths,
     /// The numbers of the cases so far.
     pub cases: List<u32>,
     pub sets: Sets,
+    /// How many ticks a period has.
+    pub period: u16,
     ghost each: { length least ≡ length parameters },
+    ghost some: { 0 < period },
 }
 
 /// The number of the set of some cases and one more.
@@ -60,7 +64,7 @@ fn set_with(sets: &mut Sets, cases: usize, case: usize) -> Result<usize, NoMemor
     Ok(place + 1)
 }
 
-/// What is told of a limit in a case, as its least: the first case that has it.
+/// The slack of a limit in a case, as its least: the first case that has it.
 fn first<W: CyclicWave<Item = Value>>(
     view: &View<W>,
     paths: &mut Paths,
@@ -87,7 +91,7 @@ fn first<W: CyclicWave<Item = Value>>(
     })
 }
 
-/// The least slack of a limit with what is told of it in a case more.
+/// The least slack of a limit with that of one case more.
 fn lowered<W: CyclicWave<Item = Value>>(
     view: &View<W>,
     paths: &mut Paths,
@@ -124,9 +128,11 @@ fn lowered<W: CyclicWave<Item = Value>>(
 impl Rows {
     /// The limits of a circuit, over no case.
     pub fn new(alloc: Global, c: &Circuit) -> Result<Rows, NoMemory>
-        ensures { IfOk result (λ rows.
+        ensures known { IfOk result (λ rows.
             AreKnown c.now [] rows.parameters rows.least rows.cases rows.sets.keys) }
+        ensures period { IfOk result (λ rows. rows.period ≡ period_of c.now.header) }
     {
+        let period = c.header().period();
         let parameters = parameters_of(alloc, c)?;
         let least = none_yet(alloc, parameters.len())?;
         Ok(Rows {
@@ -135,6 +141,7 @@ impl Rows {
             paths: Paths::new(alloc),
             cases: List::new(alloc),
             sets: IndexSet::new(alloc),
+            period,
         })
     }
 
@@ -146,7 +153,8 @@ impl Rows {
     ) -> Result<(), NoMemory>
         requires sees { Sees view.now.circuit.now view.now.waves.now view.now.hazards.now }
         requires limits { self.old.parameters ≡ all_limits view.now.circuit.now }
-        ensures { OnOk result ((cases : List Case) (one : Case) →
+        ensures period { OnOk result (self.new.period ≡ self.old.period) }
+        ensures known { OnOk result ((cases : List Case) (one : Case) →
             one.number ≡ number → one.waves ≡ waves_of view.now.waves.now →
             AreKnown view.now.circuit.now cases
             self.old.parameters self.old.least self.old.cases self.old.sets.keys →

@@ -97,7 +97,7 @@ fn by_regions(watch: Watch, window: Window, around: Around) -> Slacks
     }
 }
 
-/// Where a region lies about a window by its ends; `None` where it covers it or lies in it.
+/// Where a region lies about a window by its ends; `None` if it covers it or lies in it.
 fn side_by_ends(window: Window, region: Region) -> Option<Side>
     ensures { result ≡ lies_by_ends window region }
 {
@@ -145,7 +145,7 @@ fn side_of<W: CyclicWave<Item = Value>>(
     Ok(side)
 }
 
-/// A region in the period that begins at a tick, where three periods are before its own.
+/// A region in the period that begins at a tick, with three periods before its own.
 fn moved_to<W: CyclicWave<Item = Value>>(view: &View<W>, region: Region, begin: u16) -> Region
     requires begin { begin ≤ 32768 }
     requires region { IsInPeriod (period view.now.circuit.now.header) region }
@@ -226,7 +226,7 @@ fn around<W: CyclicWave<Item = Value>>(
     Ok(all)
 }
 
-/// The slacks of two launches, or where there are none those of regions.
+/// The slacks of two launches, or if there are none those of regions.
 fn either(two: Option<Slacks>, regions: Slacks) -> Slacks
     ensures { result ≡ slacks_of_two two regions }
 {

@@ -111,7 +111,7 @@ impl Slack {
     }
 }
 
-/// What a slack is told by.
+/// What a slack comes from.
 #[derive(Clone, Copy)]
 pub enum By {
     /// The end of a region of changes.

@@ -96,7 +96,7 @@ fn is_other(known: Option<Subject>, subject: Subject) -> bool
     }
 }
 
-/// The slacks of a subject, where those of one may be known.
+/// The slacks of a subject, if those of one may be known.
 pub fn slacks_at<W: CyclicWave<Item = Value>>(
     view: &View<W>,
     paths: &mut Paths,

@@ -10,13 +10,14 @@ ghost use Rattle.critical_paths.specs.declared.direction.Corner.TheVariants.{Lat
 ghost use Rattle.critical_paths.specs.Tick.{IsWithin, most_tick};
 ghost use Rattle.critical_paths.specs.Known.{Knows};
 ghost use Rattle.critical_paths.specs.Views.{Sees};
-ghost use Rattle.slack_rows.specs.Arrived.{both_of, counts_launch, further_of};
-ghost use Rattle.slack_rows.specs.Held.{GoesOn, IsBrokenByTwo, IsClose, IsCloseWindow, IsHeld, edge_at_pin, step_held, told_back, told_by_arrival};
+ghost use Rattle.slack_rows.specs.Arrived.{both_of, counts_launch, further_of, moved_into, tick_of, told_by_arrival};
+ghost use Rattle.slack_rows.specs.Held.{GoesOn, IsBrokenByTwo, IsClose, IsCloseWindow, IsHeld, edge_at_pin, step_held, told_back};
 ghost use Rattle.slack_rows.specs.Views.{ahead_of, spare_at};
 
 use crate::around::Around;
 use crate::held::Held;
 use crate::launch::step_path;
+use crate::nearest::first_tick;
 use crate::slack::{Slack, Slacks};
 use crate::window::{Window, spare_at};
 use critical_paths::{Arrival, Corner, Direction, Paths, Place, Region, View};
@@ -31,12 +32,12 @@ fn tick_in(region: Region, period: u16, tick: i64) -> Option<i64>
     requires period { 0 < period }
     requires region { IsWithin most_tick region.first }
     requires tick { IsWithin most_tick tick }
+    ensures is { result ≡ tick_of period region tick }
     ensures from { IfSome result (λ t. region.first ≤ℤ t) }
     ensures to { IfSome result (λ t. t ≤ℤ region.last) }
 {
-    let after = (tick - region.first).rem_euclid(i64::from(period));
-    let found = region.first + after;
-    if region.first <= found && found <= region.last {
+    let found = first_tick(period, region.first, tick);
+    if found <= region.last {
         Some(found)
     } else {
         None
@@ -53,7 +54,7 @@ fn is_before(found: Arrival, tick: i64, edge: i64) -> bool
     found.ideal + (tick - found.tick) < edge
 }
 
-/// An arrival at the tick of a region that is whole periods from it, where it is launched on the
+/// An arrival at the tick of a region that is whole periods from it, if it is launched on the
 /// side of an edge that counts: before it, or by it and after it.
 fn arrival_at(
     region: Region,
@@ -72,7 +73,7 @@ fn arrival_at(
         (λ a. (region.first ≤ℤ a.tick) × (a.tick ≤ℤ region.last)) }
     ensures side { IfSome result (λ a. counts_launch corner
         (int_lt (found.ideal +ℤ (a.tick -ℤ found.tick)) edge) ≡ true) }
-    ensures edge { IfSome result (λ a. a.ideal ≡ found.ideal) }
+    ensures is { result ≡ moved_into period region corner edge found }
 {
     let tick = tick_in(region, period, found.tick)?;
     match (corner, is_before(found, tick, edge)) {
@@ -212,7 +213,7 @@ pub fn edge_of<W: CyclicWave<Item = Value>>(
     })
 }
 
-/// The slacks of two arrivals in a region, where one is broken.
+/// The slacks of two arrivals in a region, if one is broken.
 fn broken_by(held: Held, window: Window, late: Arrival, early: Arrival) -> Option<Slacks>
     requires from { IsWithin most_tick window.from }
     requires to { IsWithin most_tick window.to }
@@ -239,7 +240,7 @@ fn broken_by(held: Held, window: Window, late: Arrival, early: Arrival) -> Optio
     })
 }
 
-/// The slacks of two launches that make one region, where both arrivals are known and one is
+/// The slacks of two launches that make one region, if both arrivals are known and one is
 /// broken.
 fn by_two<W: CyclicWave<Item = Value>>(
     view: &View<W>,

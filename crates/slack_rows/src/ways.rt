@@ -1,17 +1,20 @@
-//! Slacks where the data may change in every slot: by its ways from the edges of the clock.
+//! Slacks if the data may change in every slot: by its ways from the edges of the clock.
 
-ghost use Rattle.std.specs.Prelude.{◌≡◌, ◌==◌, ◌+◌, ◌<◌, ◌≤◌, ◌^◌, not, true, IfOk, IfSome, None, OnOk, length};
-ghost use Rattle.std.specs.List.{All};
+ghost use Rattle.std.specs.Prelude.{◌≡◌, ◌==◌, ◌+◌, ◌<◌, ◌≤◌, ◌^◌, ◌-ℤ◌, ℕ, ℤ, not, true, IfOk, IfSome, None, OnOk, Some, length};
+ghost use Rattle.std.specs.List.{All, list_any};
 ghost use Rattle.scald_base.specs.Time.{period as period_of};
-ghost use Rattle.fixpoint_engine.specs.Waves.{waves_of};
+ghost use Rattle.fixpoint_engine.specs.Waves.{target_wire, waves_of};
+ghost use Rattle.critical_paths.specs.Path.{bound};
 ghost use Rattle.critical_paths.specs.Tick.{IsWithin, most_tick};
 ghost use Rattle.critical_paths.specs.Known.{Knows};
 ghost use Rattle.critical_paths.specs.Views.{Sees};
+ghost use Rattle.slack_rows.specs.Arrived.{IsGuardOf, MayAdd, behind_wire, is_nearer, moved, told_way, with_way};
 ghost use Rattle.slack_rows.specs.Held.{AreOfWays, GoesOn, IsHeld, IsInPeriod};
 ghost use Rattle.slack_rows.specs.Views.{is_starred, slack_by};
 
-use crate::guard::{Guard, Guards, moved_to};
+use crate::guard::{Guard, Guards};
 use crate::held::{Held, Watch};
+use crate::nearest::Launch;
 use crate::sides::window_of;
 use crate::slack::{Reason, Slack, Slacks, Told, lesser};
 use crate::two::{at_pin, edge_of, find};
@@ -30,41 +33,52 @@ struct Least {
 
 /// A pin that is held, an edge that guards a window of it, and the end of its changes that counts.
 #[derive(Clone, Copy)]
-struct Sought {
+pub struct Sought {
     held: Held,
     edge: Guard,
     corner: Corner,
 }
 
-/// Whether no other edge of the clock comes between a launch and this one.
-fn is_next(edges: &[Guard], period: u16, edge: Guard, launch: i64, corner: Corner) -> bool
-    requires some { 0 < period }
-    requires period { period ≤ 4096 }
-    requires launch { IsWithin (2 ^ 46) launch }
+/// Whether no other edge of its clock is nearer to a launch.
+fn is_next(edges: &[Guard], edge: Guard, launch: Launch) -> bool
+    ensures { result
+        ≡ not (list_any (is_nearer launch.corner launch.period launch.tick edge) edges.now) }
 {
-    let own = edge.after(period, launch, corner);
     for other in edges {
-        let at = other.after(period, launch, corner);
-        if other.net == edge.net && corner.is_further(own, at) {
+        if other.is_nearer(launch, edge) {
             return false;
         }
     }
     true
 }
 
+/// A window and the edge of a clock that it is about, unless that is too far.
+fn guard_of(window: Window, edge: (u32, i64)) -> Option<Guard>
+    requires from { IsWithin most_tick window.from }
+    requires to { IsWithin most_tick window.to }
+    ensures { IfSome result (IsGuardOf window edge) }
+{
+    let (net, ideal) = edge;
+    Guard::at(window, net, ideal)
+}
+
 /// Adds the edge that a clock's path begins at, if it begins at one.
 fn add_edge(edges: &mut Guards, window: Window, found: Option<(u32, i64)>) -> Result<(), NoMemory>
     requires from { IsWithin most_tick window.from }
     requires to { IsWithin most_tick window.to }
+    ensures none { found ≡ None → OnOk result (edges.new ≡ edges.old) }
+    ensures some { (edge : ℕ × ℤ) → found ≡ Some edge →
+        OnOk result (MayAdd (IsGuardOf window edge) edges.old edges.new) }
 {
-    let Some((net, ideal)) = found else {
+    let Some(edge) = found else {
         return Ok(());
     };
     // no edge of a path to a window is far
-    let Some(edge) = Guard::at(window, net, ideal) else {
+    let Some(guard) = guard_of(window, edge) else {
         return Ok(());
     };
-    edges.push(edge)
+    edges.push(guard)?;
+    Ok(())
 }
 
 /// The edges of windows whose clock's path begins at a clock: up to the begin of a window, or
@@ -94,19 +108,30 @@ fn edges<W: CyclicWave<Item = Value>>(
     Ok(found)
 }
 
-/// The slack of an arrival at the data's pin against the edge that its launch is for.
-fn way(period: u16, sought: Sought, arrival: Arrival) -> Told
-    requires some { 0 < period }
-    requires period { period ≤ 4096 }
-    requires ideal { IsWithin (2 ^ 46) arrival.ideal }
+/// An arrival so many ticks sooner.
+fn sooner(arrival: Arrival, ticks: i64) -> Arrival
     requires tick { IsWithin (2 ^ 46 + 65536) arrival.tick }
-    ensures { is_starred (slack_by result.slack) ≡ true }
+    requires ticks { IsWithin (2 ^ 47 + 2 ^ 44) ticks }
+    ensures is { result ≡ moved arrival (arrival.tick -ℤ ticks) }
+    ensures near { IsWithin most_tick result.tick }
+{
+    Arrival {
+        tick: arrival.tick - ticks,
+        ..arrival
+    }
+}
+
+/// The slack of an arrival at the data's pin against the edge that its launch is for.
+fn way(sought: Sought, launch: Launch, arrival: Arrival) -> Told
+    requires tick { IsWithin (2 ^ 46 + 65536) arrival.tick }
+    requires corner { launch.corner ≡ sought.corner }
+    ensures is { result ≡ told_way launch.period sought launch.tick arrival }
+    ensures starred { is_starred (slack_by result.slack) ≡ true }
 {
     let Sought { held, edge, corner } = sought;
-    let later = moved_to(period, edge.ideal, arrival.ideal, corner);
-    let tick = arrival.tick - later;
-    let ticks = spare_at(corner, edge.window, tick);
-    held.told(Slack::Way(ticks), edge.window, Arrival { tick, ..arrival })
+    let found = sooner(arrival, edge.moved(launch));
+    let ticks = spare_at(corner, edge.window, found.tick);
+    held.told(Slack::Way(ticks), edge.window, found)
 }
 
 /// With the slack of an arrival against an edge, if that is the one that its launch is for.
@@ -121,13 +146,22 @@ fn with_arrival<W: CyclicWave<Item = Value>>(
     requires ideal { IsWithin (2 ^ 46) arrival.ideal }
     requires tick { IsWithin (2 ^ 46) arrival.tick }
     requires best { IfSome best (λ told. is_starred (slack_by told.slack) ≡ true) }
-    ensures { IfSome result (λ told. is_starred (slack_by told.slack) ≡ true) }
+    ensures is { let c = view.now.circuit.now in let p = period_of c.header in
+        let corner = sought.corner in result ≡ with_way
+        (not (list_any (is_nearer corner p arrival.ideal sought.edge) edges.now)) best
+        (told_way p sought arrival.ideal
+        (behind_wire (bound corner (target_wire c.nets sought.held.pin.target)) arrival)) }
+    ensures starred { IfSome result (λ told. is_starred (slack_by told.slack) ≡ true) }
 {
-    let period = view.period();
     let Sought { held, edge, corner } = sought;
     let found = at_pin(view, held, arrival, corner);
-    if is_next(edges, period, edge, found.ideal, corner) {
-        lesser(best, Some(way(period, sought, found)))
+    let launch = Launch {
+        period: view.period(),
+        tick: found.ideal,
+        corner,
+    };
+    if is_next(edges, edge, launch) {
+        lesser(best, Some(way(sought, launch, found)))
     } else {
         best
     }
@@ -185,7 +219,7 @@ fn best_of<W: CyclicWave<Item = Value>>(
 }
 
 /// The least slack of one side of windows, over all launches and the edges that they are for; a
-/// reason where there is none.
+/// reason if there is none.
 fn side<W: CyclicWave<Item = Value>>(
     view: &View<W>,
     paths: &mut Paths,

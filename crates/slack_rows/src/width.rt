@@ -32,7 +32,7 @@ use step_values::Value;
 use wave_core::{Cell, CyclicWave};
 
 /// The first of the narrowest pulses at a level, as the slot in which it may begin and its width;
-/// `None` where no pulse is narrower than a period.
+/// `None` if no pulse is narrower than a period.
 fn narrowest<W: CyclicWave<Item = Value>>(wave: &W, level: bool) -> Option<(u16, u16)>
     ensures is { result
         ≡ narrowest_of (length (W.cells wave.now)) level (read (W.cells wave.now)) }
@@ -159,7 +159,7 @@ fn late_begin(split: &Split, level: bool) -> u16
     }
 }
 
-/// What two delays leave of a pulse of an element's own output, where that is nothing: when it
+/// What two delays leave of a pulse of an element's own output, if that is nothing: when it
 /// begins at its output, and how many ticks are left.
 fn nothing_left(split: &Split, level: bool, pulse: (u16, u16)) -> Option<(i64, i64)>
     ensures left { option_map (λ left. left.1) result ≡ left_if split.now level (Some pulse) }
@@ -178,7 +178,7 @@ fn nothing_left(split: &Split, level: bool, pulse: (u16, u16)) -> Option<(i64, i
     ))
 }
 
-/// The same of an element's narrowest pulse, where it has two delays.
+/// The same of an element's narrowest pulse, if it has two delays.
 fn swallowed_by<W: CyclicWave<Item = Value>>(
     view: &View<W>,
     element: &Instance,
@@ -202,7 +202,7 @@ fn swallowed_by<W: CyclicWave<Item = Value>>(
     }
 }
 
-/// The level of which a level is seen, where the complement may be.
+/// The level of which a level is seen, if the complement may be.
 fn level_behind(inverted: bool, level: bool) -> bool
     ensures { result ≡ turned inverted level }
 {
@@ -280,7 +280,7 @@ fn may_vanish(width: u16, limit: u16) -> bool
     width == 1 && limit > 1
 }
 
-/// The slack of the least width of pulses at a level; `None` where there is no such pulse.
+/// The slack of the least width of pulses at a level; `None` if there is no such pulse.
 fn width<W: CyclicWave<Item = Value>>(
     view: &View<W>,
     pin: Pin,

@@ -105,7 +105,7 @@ pub fn stays_high<W: CyclicWave<Item = Value>>(clock: &W) -> bool
     first_low(clock, 0).is_none() && may_rise(clock) && may_fall(clock)
 }
 
-/// How many slots after a rise in a slot the clock may last fall; `None` where it does not rise
+/// How many slots after a rise in a slot the clock may last fall; `None` if it does not rise
 /// there, or does not fall after it.
 fn high_after<W: CyclicWave<Item = Value>>(clock: &W, slot: u16) -> Option<u16>
     requires { slot < length (W.cells clock.now) }
@@ -132,7 +132,7 @@ fn follows(before: Option<u16>, high: u16) -> bool
     }
 }
 
-/// The span from a rise in a slot, where the clock rises and is the first that has its last fall
+/// The span from a rise in a slot, if the clock rises and is the first that has its last fall
 /// there.
 fn span_from(slot: u16, before: Option<u16>, high: Option<u16>) -> Option<Region>
     requires { IfSome high (λ ticks. ticks ≤ 4096) }

@@ -1,5 +1,4 @@
-use Rattle.std.proofs.Common.{refl}
-use Rattle.std.proofs.lemmas.Result.{on_ok_weaker}
+use Rattle.std.proofs.Common.{refl, ◌∙◌}
 use Rattle.fixpoint_engine.specs.Waves.{waves_of}
 use Rattle.slack_rows.specs.Limit.{Case}
 use Rattle.slack_report.proofs.Gathered.{waves_more}
@@ -22,14 +21,13 @@ returns g c =
       number = c.args.number;
       waves = waves_of c.args.waves.now;
     } in
-    on_ok_weaker c.add_case.result
-    (λ more cases are. record {
-      known = more cases one refl refl are.known;
+    λ cases are. record {
+      known = c.in_ok-add_case.ensures.known cases one refl refl are.known;
+      same_period = c.in_ok-add_case.ensures.period ∙ are.same_period;
       are_waves =
           waves_more c.args.circuit.now cases one are.are_waves (record {
             circuit = c.known.ensures;
             header = c.known_header.ensures;
             long = c.requires.fit.each_slot;
           });
-    })
-    c.add_case.ensures
+    }

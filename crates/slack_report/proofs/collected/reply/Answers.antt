@@ -16,7 +16,7 @@ returns c = λ cases are.
       are_broken = record {
         none = none;
         faultless = none ∙ broken_with_faults circuit cases are.are_waves;
-        exact = c.broken_count-broken.ensures.are circuit cases are.known;
+        exact = c.broken_count-broken.ensures.are circuit cases are.known are.same_period;
       };
       outcome = c.verdict.ensures;
       limits = c.row_count.result;

@@ -18,6 +18,7 @@ loop-place-init g c =
     record {
       parameters = search rules;
       cases = search rules;
+      period = search rules;
       knows = search rules;
       slacks = tt;
       passed = λ cases one waves known. passed_none circuit cases one c.args.self.now.parameters c.args.self.now.least c.args.self.now.cases
@@ -52,6 +53,7 @@ loop-place-preserved g c =
     record {
       parameters = kept.parameters;
       cases = kept.cases;
+      period = kept.period;
       knows = c.in_ok-least.ensures.paths.knows;
       slacks = c.in_ok-slacks.ensures.told;
       passed = λ cases one waves known.
@@ -72,8 +74,8 @@ loop-place-preserved g c =
           (lowered_free c.loop-place.self.sets.keys c.lowered.new.sets.keys _ c.in_ok-least.least c.of.result c.len-case.result c.in_ok-least.ensures.least);
     }
 
-pub returns : goal.returns
-returns g c = λ cases one number waves known.
+pub returns-clause-known : goal.returns-clause-known
+returns-clause-known g c = λ cases one number waves known.
     let circuit = c.args.view.now.circuit.now in
     let limits = c.args.self.now.parameters in
     let long = c.len-place-end.ensures in

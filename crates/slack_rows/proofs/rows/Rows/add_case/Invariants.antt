@@ -14,6 +14,7 @@ invariant-loop-place g l =
     record {
       parameters : l.self.parameters ≡ l.fn.self.parameters;
       cases : l.self.cases ≡ l.fn.self.cases;
+      period : l.self.period ≡ l.fn.self.period;
       knows : Knows l.view.circuit.now (waves_of l.view.waves.now) l.self.paths.nodes l.self.paths.met.entries;
       slacks : SlacksKnown l.view.circuit.now (waves_of l.view.waves.now) l.subject l.slacks;
       passed : (cases : List Case) (one : Case) → one.waves ≡ waves_of l.view.waves.now →

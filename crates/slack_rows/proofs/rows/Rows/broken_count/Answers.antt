@@ -29,10 +29,10 @@ loop-place-preserved c =
             few = omega (arith, few, is);
             counts = subst (Counts least (place + 1)) (sym w.count-is)
                 (count_own least place count within (ap breaks (sym (at_0 least place)) ∙ c.is_own.ensures.own w.if-is_own.true));
-            own = λ circuit cases known sure. count_more circuit cases limits least c.args.self.now.cases c.args.self.now.sets.keys known
+            own = λ circuit cases known same sure. count_more circuit cases limits least c.args.self.now.cases c.args.self.now.sets.keys known
                 place count c.if-is_own.count true found.0 found.1
-                (sym w.if-is_own.true ∙ c.is_own.ensures.is circuit cases found.0 known found.1 (sure_at circuit cases limits known.are_limits sure place found.0 found.1))
-                (c.loop-place.invariant.own circuit cases known sure) w.count-is;
+                (sym w.if-is_own.true ∙ c.is_own.ensures.is circuit cases found.0 known same found.1 (sure_at circuit cases limits known.are_limits sure place found.0 found.1))
+                (c.loop-place.invariant.own circuit cases known same sure) w.count-is;
           }
       | else-is_own w ↦
           let is = w.count-is in
@@ -42,10 +42,10 @@ loop-place-preserved c =
                 (count_same least place count within c.loop-place.invariant.counts
                 (λ broken. any_before least place within
                 (c.is_own.ensures.not (ap breaks (at_0 least place) ∙ broken) (ap not w.if-is_own.false))));
-            own = λ circuit cases known sure. count_more circuit cases limits least c.args.self.now.cases c.args.self.now.sets.keys known
+            own = λ circuit cases known same sure. count_more circuit cases limits least c.args.self.now.cases c.args.self.now.sets.keys known
                 place count c.if-is_own.count false found.0 found.1
-                (sym w.if-is_own.false ∙ c.is_own.ensures.is circuit cases found.0 known found.1 (sure_at circuit cases limits known.are_limits sure place found.0 found.1))
-                (c.loop-place.invariant.own circuit cases known sure) (omega (arith, is));
+                (sym w.if-is_own.false ∙ c.is_own.ensures.is circuit cases found.0 known same found.1 (sure_at circuit cases limits known.are_limits sure place found.0 found.1))
+                (c.loop-place.invariant.own circuit cases known same sure) (omega (arith, is));
           }
     ]
 
@@ -58,10 +58,10 @@ returns-clause-none c = λ circuit cases known.
     ∙ ap not (all_broken circuit cases c.args.self.now.parameters c.args.self.now.least c.args.self.now.cases c.args.self.now.sets.keys known)
 
 pub returns-clause-are : goal.returns-clause-are
-returns-clause-are c = λ circuit cases known sure.
+returns-clause-are c = λ circuit cases known same sure.
     let long = c.len-place-end.ensures in
     let past = c.loop-place-test.false in
-    c.loop-place.invariant.own circuit cases known sure
+    c.loop-place.invariant.own circuit cases known same sure
     ∙ ap (count_by (λ (q : Parameter). is_own_row circuit cases (row circuit cases q.subject q.word)))
     (take_all c.loop-place.place c.args.self.now.parameters (omega (arith, long, past)))
     ∙ count_is circuit cases c.args.self.now.parameters known.are_limits

@@ -1,5 +1,6 @@
 use Rattle.std.proofs.Common.{◌≡◌, ◌≤◌, List, take, true}
 use Rattle.std.specs.List.{count_by}
+use Rattle.scald_base.specs.Time.{period}
 use Rattle.flat_circuit.specs.Circuit.{Circuit}
 use Rattle.slack_rows.specs.declared.parameter.Parameter.{Parameter}
 use Rattle.slack_rows.specs.Known.{AreKnown, are_sure}
@@ -14,6 +15,7 @@ invariant-loop-place l =
       few : l.count ≤ l.place;
       counts : Counts l.self.least l.place l.count;
       own : (c : Circuit) (cases : List Case) →
-          AreKnown c cases l.self.parameters l.self.least l.self.cases l.self.sets.keys → are_sure c cases ≡ true →
+          AreKnown c cases l.self.parameters l.self.least l.self.cases l.self.sets.keys →
+          l.self.period ≡ period c.header → are_sure c cases ≡ true →
           l.count ≡ count_by (λ (q : Parameter). is_own_row c cases (row c cases q.subject q.word)) (take l.place l.self.parameters);
     }

@@ -3,8 +3,8 @@ use Rattle.slack_rows.specs.Known.{AreKnown}
 use Rattle.slack_rows.proofs.Beginning.{known_none}
 use Rattle.slack_rows.proofs.rows.Rows.new.Goals as goal
 
-pub returns : goal.returns
-returns c =
+pub returns-clause-known : goal.returns-clause-known
+returns-clause-known c =
     let circuit = c.args.c.now in
     let limits = c.in_ok-parameters.parameters in
     let least = c.in_ok-least.least in
