@@ -47,7 +47,7 @@ is_near c h skew to slot =
 abbrev pub is_last : ClockSpec → Header → ℕ × ℕ → Bool → ℕ → Bool
 is_last c h skew to slot = is_edge c h to (back (period h) slot skew.1)
 
--- Each edge comes once in its region, at a slot that the free bits choose, at the latest in the last.
+-- Each edge comes once in its region, at a slot that the free bits choose, or else in the last one.
 -- At tick 0 nothing is known of a region but that it was entered.
 abbrev pub moved : ClockSpec → Header → ℕ × ℕ → Signal → Signal
 moved c h skew free zero =

@@ -5,7 +5,7 @@ ghost use Rattle.std.specs.List.{range_with_len};
 ghost use Rattle.trace_sim.specs.Draw.{draw_bits, draw_each};
 ghost use Rattle.trace_sim.specs.Drawn.{draw_offset, draw_shift};
 
-use crate::input::skew_of;
+use crate::clock::skew_of;
 use crate::words::{draw_bit, draw_from};
 use crate::{Levels, Traces};
 use flat_circuit::Circuit;

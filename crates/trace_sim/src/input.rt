@@ -3,35 +3,14 @@
 
 ghost use Rattle.std.specs.Prelude.{◌≡◌, ◌-◌, ◌<◌, ◌≤◌, ◌^◌, ◌&&◌, ◌||◌, [], IfOk, Some, map, not};
 ghost use Rattle.std.specs.List.{range_with_len};
-ghost use Rattle.scald_base.specs.Time.{period};
-ghost use Rattle.scald_base.specs.Clock.{back as slots_back};
-ghost use Rattle.scald_base.specs.Fitting.{skew_of};
 ghost use Rattle.trace_sim.specs.Input.{asserted, bits_in, given_in, held, is_edge, is_last, is_near, moved, shifted};
 
 use crate::Levels;
+use crate::clock::{skew_of, slot_back};
 use assertion_syntax::{ideal, quiet};
 use flat_circuit::Net;
 use scald_base::{AssertSpec, ClockSpec, Header, NoMemory, Spans};
 use std::alloc::Global;
-
-/// How early and how late a clock may come: as its name says, or else as the header does.
-pub(crate) fn skew_of(clock: &ClockSpec, default: (u16, u16)) -> (u16, u16)
-    ensures { result ≡ skew_of clock.now default }
-{
-    match clock.skew {
-        Some(skew) => skew,
-        None => default,
-    }
-}
-
-/// The slot so many before that of a tick.
-fn slot_back(h: &Header, tick: usize, by: usize) -> u16
-    requires { (tick < 2 ^ 20) × (by < 2 ^ 32) }
-    ensures { result ≡ slots_back (period h.now) tick by }
-{
-    let period = h.period() as usize;
-    ((tick + by * (period - 1)) % period) as u16
-}
 
 fn bit_at(bits: &[bool], t: usize) -> bool
     ensures { result ≡ bits_in bits.now t }

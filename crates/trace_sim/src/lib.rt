@@ -27,6 +27,7 @@ mod rows;
 mod failure;
 
 // choices that a seed draws
+mod clock;
 pub mod draw_laws;
 mod free;
 mod input;
@@ -35,6 +36,7 @@ mod seed;
 mod words;
 
 pub use choice::{Choice, DelayPicks, Levels, Traces, WirePicks};
+pub use clock::{skew_of, slot_back};
 pub use failure::first_failure;
 pub use fitting::{choice_fits, pick_fits};
 pub use levels::nth_pin;

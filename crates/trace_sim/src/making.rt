@@ -1,12 +1,13 @@
 //! A run, made tick by tick.
 
-ghost use Rattle.std.specs.Prelude.{◌≡◌, ◌<◌, ◌^◌, ℕ, [], length, is_some, slice_index_or, IfOk, OnOk};
+ghost use Rattle.std.specs.Prelude.{◌≡◌, ◌-◌, ◌<◌, ◌^◌, ℕ, [], length, is_some, slice_index_or, IfOk, OnOk};
 ghost use Rattle.element_kinds.specs.Equation.{latched as latched_bit, registered as registered_bit};
+ghost use Rattle.element_kinds.specs.Kinds.{form_of};
 ghost use Rattle.flat_circuit.specs.Circuit.{driver_at};
 ghost use Rattle.flat_circuit.specs.Run.{out_signal, pin_signals};
 ghost use Rattle.trace_sim.specs.Choice.{ChoiceFits, chosen, choices_of};
 ghost use Rattle.trace_sim.specs.Simulated.{IsSimulated, bit_of};
-ghost use Rattle.trace_sim.specs.Making.{AreRows, begun, begun_row, evaluated, fixed, fixed_in, forced_by, pass as passed, row_by, row_in, seen, stored as stored_bit, written};
+ghost use Rattle.trace_sim.specs.Making.{AreRows, begun, begun_row, evaluated, fixed, fixed_in, forced_by, pass as passed, row_in, seen, stored as stored_bit, written};
 
 use crate::asked::is_asked;
 use crate::choice::{Choice, Levels, Traces};
@@ -169,10 +170,8 @@ pub(crate) fn fixed_bit(
     ensures { IfOk result (λ bit. bit
         ≡ fixed_in (seen bits.now) i.now (chosen delays wires.now) t) }
 {
-    let form = i.kind.form();
-    if is_asked(form, i.delay, delays, wires, t) {
-        let old = old_output(i.out, i.out_inverted, t.saturating_sub(1), bits);
-        by_form(alloc, form, i, delays, wires, row, old, t, bits)
+    if is_asked(i.kind.form(), i.delay, delays, wires, t) {
+        by_form(alloc, i, delays, wires, row, t, bits)
     } else {
         Ok(None)
     }
@@ -188,31 +187,32 @@ pub(crate) fn old_output(out: Option<Target>, inverted: bool, t: usize, bits: &[
     }
 }
 
+// The bit that the equation fixes at a tick at which it is asked, if it fixes one.
 fn by_form(
     alloc: Global,
-    form: Form,
     i: &Instance,
     delays: (u16, u16),
     wires: &[u16],
     row: usize,
-    old: bool,
     t: usize,
     bits: &[Levels],
 ) -> Result<Option<bool>, NoMemory>
     requires short { t < 2 ^ 16 }
-    requires row { row ≡ row_by form (seen bits.now) i.now (chosen delays wires.now) t }
-    ensures { IfOk result (λ bit. bit ≡ fixed form i.now.kind i.now.delay (chosen delays wires.now)
-        (pin_signals (seen bits.now) i.now.pins wires.now) old t) }
+    requires row { row ≡ row_in (seen bits.now) i.now (chosen delays wires.now) t }
+    ensures { IfOk result (λ bit. bit ≡ fixed (form_of i.now.kind) i.now.kind i.now.delay
+        (chosen delays wires.now) (pin_signals (seen bits.now) i.now.pins wires.now)
+        (out_signal (seen bits.now) i.now.out i.now.out_inverted (t - 1)) t) }
 {
     let pins = i.pins.as_slice();
     let s = t.saturating_sub(delays.0 as usize);
-    match form {
+    let old = old_output(i.out, i.out_inverted, t.saturating_sub(1), bits);
+    match i.kind.form() {
         Form::Gate => {
-            let held = is_held(alloc, form, i, delays, wires, t, row, bits)?;
+            let held = is_held(alloc, i, delays, wires, t, row, bits)?;
             Ok(Some(turned(delays.0 < delays.1, held)))
         }
         Form::Change => {
-            if is_held(alloc, form, i, delays, wires, t, row, bits)? {
+            if is_held(alloc, i, delays, wires, t, row, bits)? {
                 Ok(Some(old))
             } else {
                 Ok(None)

@@ -3,10 +3,11 @@
 //! reaches.
 
 ghost use Rattle.std.specs.Prelude.{◌≡◌, ℕ, ◌+◌, ◌-◌, ◌<◌, ◌^◌, List, length, IfOk, OnOk, Some, slice_get};
+ghost use Rattle.element_kinds.specs.Kinds.{form_of};
 ghost use Rattle.flat_circuit.specs.declared.instance.Instance.{Instance as Element};
 ghost use Rattle.flat_circuit.specs.Run.{pin_signals, Choice as Chosen};
 ghost use Rattle.trace_sim.specs.Choice.{chosen, choices_of};
-ghost use Rattle.trace_sim.specs.Making.{AreRows, far_in, held_through, near_in, passes as passes_at, row_by, row_in, seen};
+ghost use Rattle.trace_sim.specs.Making.{AreRows, far_in, held_through, near_in, passes as passes_at, row_in, seen};
 
 use crate::asked::are_shown;
 use crate::choice::{Choice, Levels};
@@ -80,7 +81,6 @@ fn passes(
 // before.
 fn row_at(
     alloc: Global,
-    form: Form,
     i: &Instance,
     delays: (u16, u16),
     wires: &[u16],
@@ -89,10 +89,11 @@ fn row_at(
     bits: &[Levels],
 ) -> Result<usize, NoMemory>
     requires short { t < 2 ^ 16 }
-    requires before { before ≡ row_by form (seen bits.now) i.now (chosen delays wires.now) t }
+    requires before { before ≡ row_in (seen bits.now) i.now (chosen delays wires.now) t }
     ensures { IfOk result (λ row. row
-        ≡ row_by form (seen bits.now) i.now (chosen delays wires.now) (t + 1)) }
+        ≡ row_in (seen bits.now) i.now (chosen delays wires.now) (t + 1)) }
 {
+    let form = i.kind.form();
     let near = near(form, i.delay, delays) as usize;
     if t < near {
         Ok(0)
@@ -106,7 +107,6 @@ fn row_at(
 /// Whether the instance saw what it waits for at each tick that it looks at from tick t.
 pub(crate) fn is_held(
     alloc: Global,
-    form: Form,
     i: &Instance,
     delays: (u16, u16),
     wires: &[u16],
@@ -115,13 +115,15 @@ pub(crate) fn is_held(
     bits: &[Levels],
 ) -> Result<bool, NoMemory>
     requires short { t < 2 ^ 16 }
-    requires before { before ≡ row_by form (seen bits.now) i.now (chosen delays wires.now) t }
-    ensures { IfOk result (λ held. let choice = chosen delays wires.now in held
+    requires before { before ≡ row_in (seen bits.now) i.now (chosen delays wires.now) t }
+    ensures { IfOk result (λ held.
+        let choice = chosen delays wires.now in let form = form_of i.now.kind in held
         ≡ held_through (passes_at form i.now.kind choice
         (pin_signals (seen bits.now) i.now.pins wires.now))
         (near_in form i.now.delay choice) (far_in form i.now.delay choice) t) }
 {
-    let row = row_at(alloc, form, i, delays, wires, t, before, bits)?;
+    let row = row_at(alloc, i, delays, wires, t, before, bits)?;
+    let form = i.kind.form();
     let near = near(form, i.delay, delays) as usize;
     let far = far(form, i.delay, delays) as usize;
     Ok(far < row + near)
@@ -148,10 +150,7 @@ fn counted(
         None => Ok(0),
         Some(i) => match choice.at(k as usize) {
             None => Ok(0),
-            Some((delays, wires)) => {
-                let form = i.kind.form();
-                row_at(alloc, form, i, delays, wires, t, before, bits)
-            }
+            Some((delays, wires)) => row_at(alloc, i, delays, wires, t, before, bits),
         },
     }
 }

@@ -6,8 +6,14 @@ use Rattle.scald_base.specs.declared.refusal.Refusal.{Refusal}
 use Rattle.trace_tool.specs.declared.outcome.TraceOutcome.TheVariants.{Done, Broken, Refused, NotRun, BadWords, TooLong, ReadFault, WriteFault, NoMemory, BadTrace, NoCase, TooBig}
 use Rattle.trace_tool.specs.declared.words.Command.{Command}
 use Rattle.trace_tool.specs.declared.words.Command.TheVariants.{Run, Judge}
+use Rattle.trace_tool.specs.declared.asked.Format.TheVariants.{Trace, Dump}
 use Rattle.trace_tool.specs.Outcome.{status_of}
-use Rattle.trace_tool.specs.Words.{command_of, number_in}
+use Rattle.trace_tool.specs.Words.{asked, command_of, number_in}
+use Rattle.value_change_dump.specs.declared.tick.Count.{Count}
+use Rattle.value_change_dump.specs.declared.tick.Count.TheVariants.{One, Ten, Hundred}
+use Rattle.value_change_dump.specs.declared.tick.Unit.{Unit}
+use Rattle.value_change_dump.specs.declared.tick.Unit.TheVariants.{Seconds, Microseconds, Nanoseconds}
+use Rattle.value_change_dump.specs.declared.tick.TickLength.{TickLength}
 
 -- ---- outcomes
 
@@ -41,9 +47,35 @@ forms : commands (
     ∷ (codes "run" ∷ codes "6" ∷ codes "0" ∷ codes "case=2" ∷ [])
     ∷ (codes "judge" ∷ codes "0" ∷ [])
     ∷ (codes "judge" ∷ codes "4096" ∷ []) ∷ [])
-    ≡ Ok (Run 6 0 None) ∷ Ok (Run 6 0 (Some 2)) ∷ Ok (Judge 0) ∷ Ok (Judge 4096) ∷ []
+    ≡ Ok (Run (asked Trace 6 0 None)) ∷ Ok (Run (asked Trace 6 0 (Some 2))) ∷ Ok (Judge 0) ∷ Ok (Judge 4096) ∷ []
 unfolding digits number_in
 forms = refl
+
+abbrev of : Count → Unit → TickLength
+of count unit = record { count = count; unit = unit }
+
+dumps : commands (
+    (codes "vcd" ∷ codes "6" ∷ codes "7" ∷ [])
+    ∷ (codes "vcd" ∷ codes "6" ∷ codes "7" ∷ codes "case=2" ∷ [])
+    ∷ (codes "vcd" ∷ codes "6" ∷ codes "7" ∷ codes "tick=10us" ∷ [])
+    ∷ (codes "vcd" ∷ codes "6" ∷ codes "7" ∷ codes "case=2" ∷ codes "tick=100s" ∷ []) ∷ [])
+    ≡ Ok (Run (asked (Dump (of One Nanoseconds)) 6 7 None)) ∷ Ok (Run (asked (Dump (of One Nanoseconds)) 6 7 (Some 2)))
+    ∷ Ok (Run (asked (Dump (of Ten Microseconds)) 6 7 None)) ∷ Ok (Run (asked (Dump (of Hundred Seconds)) 6 7 (Some 2))) ∷ []
+unfolding digits number_in
+dumps = refl
+
+wrong_dumps : commands (
+    (codes "vcd" ∷ codes "6" ∷ [])
+    ∷ (codes "vcd" ∷ codes "6" ∷ codes "7" ∷ codes "tick=2ns" ∷ [])
+    ∷ (codes "vcd" ∷ codes "6" ∷ codes "7" ∷ codes "tick=1 ns" ∷ [])
+    ∷ (codes "vcd" ∷ codes "6" ∷ codes "7" ∷ codes "tick=1000ns" ∷ [])
+    ∷ (codes "vcd" ∷ codes "6" ∷ codes "7" ∷ codes "case=2" ∷ codes "case=2" ∷ [])
+    ∷ (codes "vcd" ∷ codes "6" ∷ codes "7" ∷ codes "tick=1ns" ∷ codes "case=2" ∷ [])
+    ∷ (codes "vcd" ∷ codes "6" ∷ codes "7" ∷ codes "case=2" ∷ codes "tick=1ns" ∷ codes "x" ∷ [])
+    ∷ (codes "run" ∷ codes "6" ∷ codes "7" ∷ codes "tick=1ns" ∷ []) ∷ [])
+    ≡ Err 2 ∷ Err 3 ∷ Err 3 ∷ Err 3 ∷ Err 4 ∷ Err 4 ∷ Err 5 ∷ Err 3 ∷ []
+unfolding digits number_in
+wrong_dumps = refl
 
 missing : commands ([] ∷ (codes "run" ∷ []) ∷ (codes "run" ∷ codes "6" ∷ []) ∷ (codes "judge" ∷ []) ∷ [])
     ≡ Err 0 ∷ Err 1 ∷ Err 2 ∷ Err 1 ∷ []

@@ -1,32 +1,19 @@
 -- From what is found of a text, of its lines and of a trace to what is replied.
-use Rattle.std.proofs.Common.{◌≡◌, ℕ, zero, suc, ◌+◌, ◌<◌, ◌≤◌, List, [], ◌∷◌, ◌++◌, length, take, get_or, Option, Some, None, IfOk, Result, Ok, Err, refl, ap, sym, subst, ◌∙◌, arith, append_assoc, length-append}
-use Rattle.std.specs.Prelude.{MatchOption, slice_get, slice_index_or}
-use Rattle.std.proofs.lemmas.Option.{get_or_from_slice_get, same_Some}
+use Rattle.std.proofs.Common.{◌≡◌, ℕ, List, [], ◌++◌, Option, Some, None, IfOk, Ok, Err, ap, sym, subst, ◌∙◌, append_assoc}
+use Rattle.std.specs.Prelude.{MatchOption}
 use Rattle.scald_base.specs.declared.refusal.Refusal.{Refusal}
-use Rattle.scald_base.specs.Time.{Bounds}
-use Rattle.element_kinds.specs.declared.kind.Kind.{Kind}
-use Rattle.element_kinds.specs.declared.form.Form.{Form}
-use Rattle.element_kinds.specs.declared.form.Form.TheVariants.{Gate, Change, Register, Latch as Enabled, Checker}
-use Rattle.element_kinds.specs.Kinds.{form_of}
 use Rattle.flat_circuit.specs.declared.case.CaseValue.{CaseValue}
-use Rattle.flat_circuit.specs.declared.split.Split.{Split}
-use Rattle.flat_circuit.specs.declared.instance.Instance.{Instance}
-use Rattle.flat_circuit.specs.Split.{two_delays}
 use Rattle.flat_circuit.specs.Circuit.{Circuit}
-use Rattle.flat_circuit.specs.Run.{DelayFitsForm, DelaysFit, IsRun, Run}
+use Rattle.flat_circuit.specs.Run.{IsRun, Run}
 use Rattle.fixpoint_engine.specs.Interface.{MeetsInterface}
 use Rattle.listing.specs.Answer.{refusal_line}
 use Rattle.timing_analysis.specs.Drawn.{DrawsCircuit, IsTextRefused}
 use Rattle.trace_tool.specs.declared.element.Element.{Element}
 use Rattle.trace_tool.specs.Break.{BreaksFirst, BreaksNever}
 use Rattle.trace_tool.specs.Interface.{StraysFirst}
-use Rattle.trace_sim.specs.declared.choice.Choice.{Choice}
-use Rattle.trace_sim.specs.Choice.{Bits, IsOneDelay, IsOneDelayForm, PickFits, all_chosen, chosen}
-use Rattle.trace_sim.specs.Simulated.{run_of}
-use Rattle.trace_sim.specs.Failure.{ArePicks, FailsFirst}
+use Rattle.trace_sim.specs.Failure.{FailsFirst}
 use Rattle.trace_tool.specs.declared.trace.Trace.{Trace}
-use Rattle.trace_tool.specs.Trace.{pick_at, text_of_lines, wires_at}
-use Rattle.trace_tool.specs.Reading.{HasNoTrace, HasTrace, IsEnded, IsReadAs, IsTrace, IsWrongLine}
+use Rattle.trace_tool.specs.Reading.{HasNoTrace, HasTrace, IsReadAs, IsWrongLine}
 use Rattle.trace_tool.specs.declared.outcome.TraceOutcome.{TraceOutcome}
 use Rattle.trace_tool.specs.declared.outcome.TraceOutcome.TheVariants.{BadTrace, NotRun, Refused}
 use Rattle.trace_tool.specs.Judged as judged

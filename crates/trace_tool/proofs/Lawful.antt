@@ -1,5 +1,5 @@
 -- No reply of the simulator is an end of a call, and a text has one.
-use Rattle.std.proofs.Common.{◌≡◌, ℕ, true, false, List, refl, Option, Some, None}
+use Rattle.std.proofs.Common.{◌≡◌, ℕ, List, refl, Option, Some, None}
 use Rattle.scald_base.specs.declared.call_end.CallEnd.{CallEnd}
 use Rattle.scald_base.specs.declared.call_end.CallEnd.TheVariants.{BadWords, TooLong, ReadFault, WriteFault, NoMemory}
 use Rattle.flat_circuit.specs.declared.case.CaseValue.{CaseValue}
@@ -9,6 +9,7 @@ use Rattle.trace_tool.specs.declared.element.Element.{Element}
 use Rattle.program_call.specs.Program.{IsLawful}
 use Rattle.trace_tool.specs.declared.words.Command.{Command}
 use Rattle.trace_tool.specs.declared.words.Command.TheVariants.{Run, Judge}
+use Rattle.trace_tool.specs.declared.asked.Asked.{Asked}
 use Rattle.trace_tool.specs.declared.outcome.TraceOutcome.{TraceOutcome}
 use Rattle.trace_tool.specs.Outcome.{end_of, ended}
 use Rattle.trace_tool.specs.Ran as ran
@@ -26,20 +27,21 @@ end_of_ended ReadFault = refl
 end_of_ended WriteFault = refl
 end_of_ended NoMemory = refl
 
--- ---- replies to `run`
+-- ---- replies to `run` and `vcd`
 
-ran_in_speaks : (c : Circuit) (values : List CaseValue) (ticks seed : ℕ) (o : TraceOutcome) (bytes : List ℕ) → RanIn c values ticks seed o bytes → end_of o ≡ None
-ran_in_speaks c values ticks seed _ _ (ran.too_big more) = refl
-ran_in_speaks c values ticks seed _ _ (ran.done trace few is) = refl
+ran_in_speaks : (asked : Asked) (name : List ℕ) (c : Circuit) (values : List CaseValue) (o : TraceOutcome) (bytes : List ℕ) →
+    RanIn asked name c values o bytes → end_of o ≡ None
+ran_in_speaks asked name c values _ _ (ran.too_big more) = refl
+ran_in_speaks asked name c values _ _ (ran.done trace few is) = refl
 
-ran_on_speaks : (c : Circuit) (cases : List (List CaseValue)) (ticks seed : ℕ) (case : Option ℕ) (o : TraceOutcome) (bytes : List ℕ) →
-    RanOn c cases ticks seed case o bytes → end_of o ≡ None
-ran_on_speaks c cases ticks seed case _ _ (ran.no_case k is past) = refl
-ran_on_speaks c cases ticks seed case _ _ (ran.in_case values o bytes asked r) = ran_in_speaks c values ticks seed o bytes r
+ran_on_speaks : (asked : Asked) (name : List ℕ) (c : Circuit) (cases : List (List CaseValue)) (o : TraceOutcome) (bytes : List ℕ) →
+    RanOn asked name c cases o bytes → end_of o ≡ None
+ran_on_speaks asked name c cases _ _ (ran.no_case k is past) = refl
+ran_on_speaks asked name c cases _ _ (ran.in_case values o bytes found r) = ran_in_speaks asked name c values o bytes r
 
-ran_speaks : (ticks seed : ℕ) (case : Option ℕ) (text : List ℕ) (o : TraceOutcome) (bytes : List ℕ) → Ran ticks seed case text o bytes → end_of o ≡ None
-ran_speaks ticks seed case text _ _ (ran.refused r is) = refl
-ran_speaks ticks seed case text _ _ (ran.on_circuit c cases o bytes draws on) = ran_on_speaks c cases ticks seed case o bytes on
+ran_speaks : (asked : Asked) (text : List ℕ) (o : TraceOutcome) (bytes : List ℕ) → Ran asked text o bytes → end_of o ≡ None
+ran_speaks asked text _ _ (ran.refused r is) = refl
+ran_speaks asked text _ _ (ran.on_circuit c cases o bytes draws on) = ran_on_speaks asked draws.drawing.name c cases o bytes on
 
 -- ---- replies to `judge`
 
@@ -63,12 +65,12 @@ judged_speaks from text _ _ (judged.on_circuit lines drawing c cases o bytes h d
 -- ---- the program
 
 speaks : (command : Command) (text : List ℕ) (o : TraceOutcome) (bytes : List ℕ) → simulator.Replied command text o bytes → end_of o ≡ None
-speaks (Run ticks seed case) text o bytes r = ran_speaks ticks seed case text o bytes r
+speaks (Run asked) text o bytes r = ran_speaks asked text o bytes r
 speaks (Judge from) text o bytes r = judged_speaks from text o bytes r
 
 one_reply : (command : Command) (text : List ℕ) (o o' : TraceOutcome) (bytes bytes' : List ℕ) → simulator.Replied command text o bytes →
     simulator.Replied command text o' bytes' → (o ≡ o') × (bytes ≡ bytes')
-one_reply (Run ticks seed case) text o o' bytes bytes' r r' = one_ran ticks seed case text o o' bytes bytes' r r'
+one_reply (Run asked) text o o' bytes bytes' r r' = one_ran asked text o o' bytes bytes' r r'
 one_reply (Judge from) text o o' bytes bytes' r r' = one_judged from text o o' bytes bytes' r r'
 
 pub simulator_is_lawful : IsLawful simulator

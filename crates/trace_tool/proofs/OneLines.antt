@@ -1,18 +1,18 @@
 -- A text has one trace, whose lines are wrong in one way or are those of one run.
-use Rattle.std.proofs.Common.{◌≡◌, ◌≢◌, ℕ, zero, suc, ◌+◌, ◌-◌, ◌<◌, ◌≤◌, List, [], ◌∷◌, ◌++◌, length, drop, map, Option, Some, None, refl, ap, sym, subst, ◌∙◌, arith, inl, inr}
+use Rattle.std.proofs.Common.{◌≡◌, ◌≢◌, ℕ, zero, suc, ◌-◌, ◌<◌, ◌≤◌, List, [], ◌∷◌, ◌++◌, length, drop, Option, Some, refl, ap, sym, subst, ◌∙◌, arith, inl, inr}
 use Rattle.std.specs.Prelude.{slice_get, option_map, ◌⊎◌}
 use Rattle.std.specs.List.{All}
 use Rattle.std.proofs.lemmas.Bool.{cases_order}
 use Rattle.std.proofs.lemmas.List.{length-map}
 use Rattle.std.proofs.lemmas.List.Elements.{All-append, All-cons, All-head, All-nil, All-tail}
-use Rattle.std.proofs.lemmas.Option.{get_or_from_slice_get, slice_get-get_or, slice_get-map}
+use Rattle.std.proofs.lemmas.Option.{slice_get-map}
 use Rattle.std.proofs.Math.Seq.{drop-append_seam}
 use Rattle.flat_circuit.specs.declared.instance.Instance.{Instance}
 use Rattle.flat_circuit.specs.Circuit.{Circuit, IsCircuit}
 use Rattle.trace_tool.specs.declared.trace.Trace.{Trace}
 use Rattle.trace_tool.specs.declared.line.Line.{Line}
 use Rattle.trace_tool.specs.declared.line.Line.TheVariants.{Head, Delays, Bits, End}
-use Rattle.trace_tool.specs.Trace.{end_line, line_order, line_text, pick_at, text_of_lines, trace_lines, wires_at}
+use Rattle.trace_tool.specs.Trace.{end_line, line_order, line_text, pick_at, text_of_lines, wires_at}
 use Rattle.trace_tool.specs.Reading.{HasFirst, HasTrace, IsLine, IsReadAs, IsRight, IsTrace, IsWithin, IsWrongLine, PickIsFit}
 use Rattle.trace_tool.specs.Scan.{lines_of}
 use Rattle.trace_tool.specs.Taking.{IsLineOf}

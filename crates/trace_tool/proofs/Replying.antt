@@ -1,5 +1,5 @@
 -- From what is replied to a circuit and in a case to what is replied to a text.
-use Rattle.std.proofs.Common.{◌≡◌, ℕ, zero, suc, ◌-◌, ◌*◌, ◌<◌, ◌≤◌, true, List, [], ◌∷◌, length, Some, None, Option, IfOk, IfSome, Result, Ok, Err, ap, subst, sym, ◌∙◌, arith}
+use Rattle.std.proofs.Common.{◌≡◌, ℕ, zero, suc, ◌-◌, ◌*◌, ◌<◌, ◌≤◌, true, List, [], ◌∷◌, length, Some, None, Option, IfOk, IfSome, Ok, Err, ap, subst, sym, ◌∙◌, arith}
 use Rattle.std.specs.Prelude.{slice_get}
 use Rattle.std.specs.List.{All}
 use Rattle.std.proofs.lemmas.List.Elements.{All-nil}
@@ -9,61 +9,66 @@ use Rattle.flat_circuit.specs.declared.case.CaseValue.{CaseValue}
 use Rattle.flat_circuit.specs.Circuit.{Circuit}
 use Rattle.case_analysis.specs.Listed.{IsListed, is_free, none}
 use Rattle.listing.specs.Answer.{refusal_line}
-use Rattle.timing_analysis.specs.Drawn.{DrawsCircuit, IsTextRefused}
+use Rattle.timing_analysis.specs.Drawn.{IsTextRefused}
 use Rattle.trace_tool.specs.declared.trace.Trace.{Trace}
-use Rattle.trace_tool.specs.Trace.{trace_text}
+use Rattle.trace_tool.specs.declared.asked.Asked.{Asked}
 use Rattle.trace_tool.specs.declared.outcome.TraceOutcome.{TraceOutcome}
 use Rattle.trace_tool.specs.declared.outcome.TraceOutcome.TheVariants.{Done, NoCase, Refused, TooBig}
 use Rattle.trace_tool.specs.Ran as ran
 use Rattle.trace_tool.proofs.Made.{Gives, Made}
-use Rattle.trace_tool.specs.Ran.{IsTraced, Ran, RanIn, RanOn, case_asked, most_bits}
+use Rattle.trace_tool.specs.Ran.{IsNamed, IsTraced, Ran, RanIn, RanOn, case_asked, most_bits, written}
 
-pub refused_reply : (ticks seed : ℕ) (case : Option ℕ) (text : List ℕ) (made : Made) (r : Refusal) → IsTextRefused text r →
+pub refused_reply : (asked : Asked) (text : List ℕ) (made : Made) (r : Refusal) → IsTextRefused text r →
     IfOk made (λ reply. reply.outcome ≡ Refused r) → IfOk made (λ reply. reply.bytes ≡ refusal_line r) →
-    Gives made (Ran ticks seed case text)
-refused_reply ticks seed case text (Ok reply) r is outcome bytes =
-    subst (λ (o : TraceOutcome). Ran ticks seed case text o reply.bytes) (sym outcome)
-    (subst (Ran ticks seed case text (Refused r)) (sym bytes) (ran.refused r is))
-refused_reply ticks seed case text (Err e) r is outcome bytes = tt
+    Gives made (Ran asked text)
+refused_reply asked text (Ok reply) r is outcome bytes =
+    subst (λ (o : TraceOutcome). Ran asked text o reply.bytes) (sym outcome)
+    (subst (Ran asked text (Refused r)) (sym bytes) (ran.refused r is))
+refused_reply asked text (Err e) r is outcome bytes = tt
 
-pub circuit_reply : (ticks seed : ℕ) (case : Option ℕ) (text : List ℕ) (made : Made) (c : Circuit) (cases : List (List CaseValue)) →
-    DrawsCircuit text c cases → Gives made (RanOn c cases ticks seed case) → Gives made (Ran ticks seed case text)
-circuit_reply ticks seed case text (Ok reply) c cases draws on = ran.on_circuit c cases reply.outcome reply.bytes draws on
-circuit_reply ticks seed case text (Err e) c cases draws on = tt
+on_named : (asked : Asked) (text name : List ℕ) (o : TraceOutcome) (bytes : List ℕ) (c : Circuit) (cases : List (List CaseValue)) →
+    IsNamed text name c cases → RanOn asked name c cases o bytes → Ran asked text o bytes
+on_named asked text name o bytes c cases named on =
+    ran.on_circuit c cases o bytes named.draws (subst (λ (n : List ℕ). RanOn asked n c cases o bytes) (sym named.is) on)
 
-pub case_reply : (ticks seed : ℕ) (case : Option ℕ) (c : Circuit) (cases : List (List CaseValue)) (made : Made) (values : List CaseValue) →
-    case_asked case cases ≡ Some values → Gives made (RanIn c values ticks seed) → Gives made (RanOn c cases ticks seed case)
-case_reply ticks seed case c cases (Ok reply) values asked on = ran.in_case values reply.outcome reply.bytes asked on
-case_reply ticks seed case c cases (Err e) values asked on = tt
+pub circuit_reply : (asked : Asked) (text name : List ℕ) (made : Made) (c : Circuit) (cases : List (List CaseValue)) →
+    IsNamed text name c cases → Gives made (RanOn asked name c cases) → Gives made (Ran asked text)
+circuit_reply asked text name (Ok reply) c cases named on = on_named asked text name reply.outcome reply.bytes c cases named on
+circuit_reply asked text name (Err e) c cases named on = tt
 
-pub none_reply : (ticks seed : ℕ) (case : Option ℕ) (c : Circuit) (cases : List (List CaseValue)) (made : Made) (values : List CaseValue) →
-    case ≡ None → values ≡ [] → Gives made (RanIn c values ticks seed) → Gives made (RanOn c cases ticks seed case)
-none_reply ticks seed case c cases made values is empty on =
-    case_reply ticks seed case c cases made values
+pub case_reply : (asked : Asked) (name : List ℕ) (c : Circuit) (cases : List (List CaseValue)) (made : Made) (values : List CaseValue) →
+    case_asked asked.case cases ≡ Some values → Gives made (RanIn asked name c values) → Gives made (RanOn asked name c cases)
+case_reply asked name c cases (Ok reply) values found on = ran.in_case values reply.outcome reply.bytes found on
+case_reply asked name c cases (Err e) values found on = tt
+
+pub none_reply : (asked : Asked) (name : List ℕ) (c : Circuit) (cases : List (List CaseValue)) (made : Made) (values : List CaseValue) →
+    asked.case ≡ None → values ≡ [] → Gives made (RanIn asked name c values) → Gives made (RanOn asked name c cases)
+none_reply asked name c cases made values is empty on =
+    case_reply asked name c cases made values
     (ap (λ (o : Option ℕ). case_asked o cases) is ∙ ap (λ (vs : List CaseValue). Some vs) (sym empty)) on
 
-pub some_reply : (ticks seed : ℕ) (case : Option ℕ) (c : Circuit) (cases : List (List CaseValue)) (made : Made) (k : ℕ) (values : List CaseValue) →
-    case ≡ Some k → slice_get cases (k - 1) ≡ Some values → Gives made (RanIn c values ticks seed) → Gives made (RanOn c cases ticks seed case)
-some_reply ticks seed case c cases made k values is found on =
-    case_reply ticks seed case c cases made values (ap (λ (o : Option ℕ). case_asked o cases) is ∙ found) on
+pub some_reply : (asked : Asked) (name : List ℕ) (c : Circuit) (cases : List (List CaseValue)) (made : Made) (k : ℕ) (values : List CaseValue) →
+    asked.case ≡ Some k → slice_get cases (k - 1) ≡ Some values → Gives made (RanIn asked name c values) → Gives made (RanOn asked name c cases)
+some_reply asked name c cases made k values is found on =
+    case_reply asked name c cases made values (ap (λ (o : Option ℕ). case_asked o cases) is ∙ found) on
 
-pub no_case_reply : (ticks seed : ℕ) (case : Option ℕ) (c : Circuit) (cases : List (List CaseValue)) (k : ℕ) (o : TraceOutcome) (bytes : List ℕ) →
-    case ≡ Some k → length cases < k → o ≡ NoCase (length cases) → bytes ≡ [] → RanOn c cases ticks seed case o bytes
-no_case_reply ticks seed case c cases k o bytes is past outcome silent =
-    subst (λ (p : TraceOutcome). RanOn c cases ticks seed case p bytes) (sym outcome)
-    (subst (RanOn c cases ticks seed case (NoCase (length cases))) (sym silent) (ran.no_case k is past))
+pub no_case_reply : (asked : Asked) (name : List ℕ) (c : Circuit) (cases : List (List CaseValue)) (k : ℕ) (o : TraceOutcome) (bytes : List ℕ) →
+    asked.case ≡ Some k → length cases < k → o ≡ NoCase (length cases) → bytes ≡ [] → RanOn asked name c cases o bytes
+no_case_reply asked name c cases k o bytes is past outcome silent =
+    subst (λ (p : TraceOutcome). RanOn asked name c cases p bytes) (sym outcome)
+    (subst (RanOn asked name c cases (NoCase (length cases))) (sym silent) (ran.no_case k is past))
 
-pub big_reply : (ticks seed : ℕ) (c : Circuit) (values : List CaseValue) (o : TraceOutcome) (bytes : List ℕ) →
-    most_bits < length c.nets * ticks → o ≡ TooBig → bytes ≡ [] → RanIn c values ticks seed o bytes
-big_reply ticks seed c values o bytes more outcome silent =
-    subst (λ (p : TraceOutcome). RanIn c values ticks seed p bytes) (sym outcome)
-    (subst (RanIn c values ticks seed TooBig) (sym silent) (ran.too_big more))
+pub big_reply : (asked : Asked) (name : List ℕ) (c : Circuit) (values : List CaseValue) (o : TraceOutcome) (bytes : List ℕ) →
+    most_bits < length c.nets * asked.ticks → o ≡ TooBig → bytes ≡ [] → RanIn asked name c values o bytes
+big_reply asked name c values o bytes more outcome silent =
+    subst (λ (p : TraceOutcome). RanIn asked name c values p bytes) (sym outcome)
+    (subst (RanIn asked name c values TooBig) (sym silent) (ran.too_big more))
 
-pub done_reply : (ticks seed : ℕ) (c : Circuit) (values : List CaseValue) (trace : Trace) (bytes : List ℕ) →
-    length c.nets * ticks ≤ most_bits → IsTraced c values ticks seed trace → bytes ≡ trace_text c trace →
-    RanIn c values ticks seed Done bytes
-done_reply ticks seed c values trace bytes few is text =
-    subst (RanIn c values ticks seed Done) (sym text) (ran.done trace few is)
+pub done_reply : (asked : Asked) (name : List ℕ) (c : Circuit) (values : List CaseValue) (trace : Trace) (bytes : List ℕ) →
+    length c.nets * asked.ticks ≤ most_bits → IsTraced c values asked.ticks asked.seed trace →
+    bytes ≡ written asked.format name c trace → RanIn asked name c values Done bytes
+done_reply asked name c values trace bytes few is text =
+    subst (RanIn asked name c values Done) (sym text) (ran.done trace few is)
 
 -- ---- cases
 

@@ -1,5 +1,5 @@
--- What `run` replies to a text: a run that is drawn of its circuit, as a trace; or why there is
--- none.
+-- What `run` and `vcd` reply to a text: a run that is drawn of its circuit, as a trace or as a value
+-- change dump; or why there is none.
 use Rattle.std.specs.Prelude.{◌≡◌, ℕ, ◌-◌, ◌*◌, ◌<◌, ◌≤◌, List, [], length, slice_get, Option, Some, None}
 use Rattle.scald_base.specs.declared.refusal.Refusal.{Refusal}
 use Rattle.flat_circuit.specs.declared.case.CaseValue.{CaseValue}
@@ -11,10 +11,14 @@ use Rattle.listing.specs.Answer.{refusal_line}
 use Rattle.timing_analysis.specs.Drawn.{DrawsCircuit, IsTextRefused}
 use Rattle.trace_sim.specs.declared.choice.Choice.{Choice}
 use Rattle.trace_sim.specs.Choice.{ChoiceFits, choices_of}
-use Rattle.trace_sim.specs.Simulated.{IsSimulated, run_of}
+use Rattle.trace_sim.specs.Simulated.{IsSimulated}
 use Rattle.trace_sim.specs.Input.{IsDrawn}
 use Rattle.trace_tool.specs.declared.trace.Trace.{Trace}
 use Rattle.trace_tool.specs.Trace.{trace_text}
+use Rattle.trace_tool.specs.declared.asked.Asked.{Asked}
+use Rattle.trace_tool.specs.declared.asked.Format.{Format}
+use Rattle.trace_tool.specs.declared.asked.Format.TheVariants as format
+use Rattle.value_change_dump.specs.Dump.{dump_text}
 use Rattle.trace_tool.specs.declared.outcome.TraceOutcome.{TraceOutcome}
 use Rattle.trace_tool.specs.declared.outcome.TraceOutcome.TheVariants.{Done, NoCase, Refused, TooBig}
 
@@ -62,28 +66,38 @@ pub record IsTraced (c : Circuit) (values : List CaseValue) (ticks seed : ℕ)
 
 -- ---- the reply
 
+-- the trace as it is asked for, of a drawing of this name
+abbrev pub written : Format → List ℕ → Circuit → Trace → List ℕ
+written format.Trace name c trace = trace_text c trace
+written (format.Dump tick) name c trace = dump_text tick name c trace.bits trace.ticks
+
 -- In a case: there would be too many bits, or the trace is written.
-pub data RanIn (c : Circuit) (values : List CaseValue) (ticks seed : ℕ) : TraceOutcome → List ℕ →
-    Type 0 where
-  too_big : most_bits < length c.nets * ticks → RanIn c values ticks seed TooBig []
-  done : (trace : Trace) → length c.nets * ticks ≤ most_bits → IsTraced c values ticks seed trace →
-      RanIn c values ticks seed Done (trace_text c trace)
+pub data RanIn (asked : Asked) (name : List ℕ) (c : Circuit) (values : List CaseValue) :
+    TraceOutcome → List ℕ → Type 0 where
+  too_big : most_bits < length c.nets * asked.ticks → RanIn asked name c values TooBig []
+  done : (trace : Trace) → length c.nets * asked.ticks ≤ most_bits →
+      IsTraced c values asked.ticks asked.seed trace →
+      RanIn asked name c values Done (written asked.format name c trace)
 
 -- To a circuit and the cases that are listed of it: there is no such case, and there are so many;
 -- or it is replied in the case.
-pub data RanOn (c : Circuit) (cases : List (List CaseValue)) (ticks seed : ℕ)
-    (case : Option ℕ) : TraceOutcome → List ℕ → Type 0 where
-  no_case : (k : ℕ) → case ≡ Some k → length cases < k →
-      RanOn c cases ticks seed case (NoCase (length cases)) []
+pub data RanOn (asked : Asked) (name : List ℕ) (c : Circuit) (cases : List (List CaseValue)) :
+    TraceOutcome → List ℕ → Type 0 where
+  no_case : (k : ℕ) → asked.case ≡ Some k → length cases < k →
+      RanOn asked name c cases (NoCase (length cases)) []
   in_case : (values : List CaseValue) (o : TraceOutcome) (bytes : List ℕ) →
-      case_asked case cases ≡ Some values →
-      RanIn c values ticks seed o bytes → RanOn c cases ticks seed case o bytes
+      case_asked asked.case cases ≡ Some values →
+      RanIn asked name c values o bytes → RanOn asked name c cases o bytes
 
--- To a text: why it is refused comes first.
-pub data Ran (ticks seed : ℕ) (case : Option ℕ) (text : List ℕ) : TraceOutcome → List ℕ →
+-- the text draws this circuit with these cases, by a drawing of this name
+pub record IsNamed (text name : List ℕ) (c : Circuit) (cases : List (List CaseValue)) :
     Type 0 where
-  refused : (r : Refusal) → IsTextRefused text r →
-      Ran ticks seed case text (Refused r) (refusal_line r)
-  on_circuit : (c : Circuit) (cases : List (List CaseValue)) (o : TraceOutcome) (bytes : List ℕ) →
-      DrawsCircuit text c cases →
-      RanOn c cases ticks seed case o bytes → Ran ticks seed case text o bytes
+  pub draws : DrawsCircuit text c cases
+  pub is : draws.drawing.name ≡ name
+
+-- To a text: why it is refused comes first. The name is that of the drawing that it draws.
+pub data Ran (asked : Asked) (text : List ℕ) : TraceOutcome → List ℕ → Type 0 where
+  refused : (r : Refusal) → IsTextRefused text r → Ran asked text (Refused r) (refusal_line r)
+  on_circuit : (c : Circuit) (cases : List (List CaseValue)) (o : TraceOutcome) (bytes : List ℕ)
+      (draws : DrawsCircuit text c cases) →
+      RanOn asked draws.drawing.name c cases o bytes → Ran asked text o bytes

@@ -11,7 +11,7 @@ use Rattle.trace_tool.specs.Words.{command_of}
 
 -- the most bytes that are read: a drawing, or a trace and a drawing
 abbrev pub most_of : Command → ℕ
-most_of (Run ticks seed case) = 4194304
+most_of (Run asked) = 4194304
 most_of (Judge from) = 16777216
 
 abbrev pub most_bytes : Result Command ℕ → ℕ
@@ -19,7 +19,7 @@ most_bytes (Ok command) = most_of command
 most_bytes (Err i) = 0
 
 abbrev pub Replied : Command → List ℕ → TraceOutcome → List ℕ → Type 0
-Replied (Run ticks seed case) text = Ran ticks seed case text
+Replied (Run asked) text = Ran asked text
 Replied (Judge from) text = Judged from text
 
 -- Both forms read.

@@ -1,10 +1,17 @@
--- The forms of words that the simulator has: `run T SEED`, then `case=K` if the run is to be in
--- a case; and `judge F`.
-use Rattle.std.specs.Prelude.{ℕ, ◌-◌, ◌^◌, ◌≤◌, ◌&&◌, nat_le, List, [], ◌∷◌, length, take, drop, codes, decimal, Option, Some, None, IfSome, Result, Ok, Err, if◌then◌else◌}
+-- The forms of words that the simulator has: `run T SEED`, then `case=K` if the run is to be in a
+-- case; `vcd T SEED`, then the same, then `tick=1ns` or another length; and `judge F`.
+use Rattle.std.specs.Prelude.{ℕ, ◌+◌, ◌-◌, ◌^◌, ◌≤◌, ◌&&◌, nat_le, List, [], ◌∷◌, length, take, drop, codes, decimal, Option, Some, None, IfSome, Result, Ok, Err, if◌then◌else◌}
 use Rattle.std.specs.Str.{bytes_eq}
 use Rattle.scald_lex.specs.Bytes.{value_of}
 use Rattle.trace_tool.specs.declared.words.Command.{Command}
 use Rattle.trace_tool.specs.declared.words.Command.TheVariants.{Run, Judge}
+use Rattle.trace_tool.specs.declared.asked.Asked.{Asked}
+use Rattle.trace_tool.specs.declared.asked.Format.{Format}
+use Rattle.trace_tool.specs.declared.asked.Format.TheVariants.{Trace, Dump}
+use Rattle.value_change_dump.specs.declared.tick.Count.TheVariants.{One}
+use Rattle.value_change_dump.specs.declared.tick.Unit.TheVariants.{Nanoseconds}
+use Rattle.value_change_dump.specs.declared.tick.TickLength.{TickLength}
+use Rattle.value_change_dump.specs.Tick.{tick_of}
 
 -- ticks of a run, cases of a drawing, and the greatest seed
 abbrev pub most_ticks : ℕ
@@ -41,29 +48,60 @@ abbrev pub alone : Command → ℕ → List (List ℕ) → Result Command ℕ
 alone command place [] = Ok command
 alone command place (w ∷ ws) = Err place
 
-abbrev pub after_case : ℕ → ℕ → Option ℕ → List (List ℕ) → Result Command ℕ
-after_case ticks seed None others = Err 3
-after_case ticks seed (Some case) others = alone (Run ticks seed (Some case)) 4 others
+-- ---- what is asked of a run
 
-abbrev pub after_seed : ℕ → ℕ → List (List ℕ) → Result Command ℕ
-after_seed ticks seed [] = Ok (Run ticks seed None)
-after_seed ticks seed (w ∷ ws) = after_case ticks seed (case_of w) ws
+abbrev pub tick_behind : Option (List ℕ) → Option TickLength
+tick_behind None = None
+tick_behind (Some text) = tick_of text
 
-abbrev pub with_seed : ℕ → Option ℕ → List (List ℕ) → Result Command ℕ
-with_seed ticks None others = Err 2
-with_seed ticks (Some seed) others = after_seed ticks seed others
+-- the length of `tick=10us`
+abbrev pub tick_asked : List ℕ → Option TickLength
+tick_asked word = tick_behind (behind (codes "tick=") word)
 
-abbrev pub after_ticks : ℕ → List (List ℕ) → Result Command ℕ
-after_ticks ticks [] = Err 2
-after_ticks ticks (w ∷ ws) = with_seed ticks (number_in 0 greatest_seed w) ws
+abbrev pub asked : Format → ℕ → ℕ → Option ℕ → Asked
+asked format ticks seed case = record { ticks = ticks; seed = seed; case = case; format = format }
 
-abbrev pub with_ticks : Option ℕ → List (List ℕ) → Result Command ℕ
-with_ticks None others = Err 1
-with_ticks (Some ticks) others = after_ticks ticks others
+abbrev pub with_tick : Asked → ℕ → Option TickLength → List (List ℕ) → Result Command ℕ
+with_tick a place None others = Err place
+with_tick a place (Some tick) others =
+    alone (Run (asked (Dump tick) a.ticks a.seed a.case)) (place + 1) others
 
-abbrev pub after_run : List (List ℕ) → Result Command ℕ
-after_run [] = Err 1
-after_run (w ∷ ws) = with_ticks (number_in 1 most_ticks w) ws
+-- what may follow the case, by the word at this place: nothing, and of a dump the length of a tick
+abbrev pub last_word : Format → Asked → ℕ → List ℕ → List (List ℕ) → Result Command ℕ
+last_word Trace a place w ws = Err place
+last_word (Dump tick) a place w ws = with_tick a place (tick_asked w) ws
+
+abbrev pub after_case : Asked → ℕ → List (List ℕ) → Result Command ℕ
+after_case a place [] = Ok (Run a)
+after_case a place (w ∷ ws) = last_word a.format a place w ws
+
+abbrev pub with_case : Format → ℕ → ℕ → Option ℕ → List ℕ → List (List ℕ) → Result Command ℕ
+with_case format ticks seed None w ws = after_case (asked format ticks seed None) 3 (w ∷ ws)
+with_case format ticks seed (Some k) w ws = after_case (asked format ticks seed (Some k)) 4 ws
+
+abbrev pub after_seed : Format → ℕ → ℕ → List (List ℕ) → Result Command ℕ
+after_seed format ticks seed [] = Ok (Run (asked format ticks seed None))
+after_seed format ticks seed (w ∷ ws) = with_case format ticks seed (case_of w) w ws
+
+abbrev pub with_seed : Format → ℕ → Option ℕ → List (List ℕ) → Result Command ℕ
+with_seed format ticks None others = Err 2
+with_seed format ticks (Some seed) others = after_seed format ticks seed others
+
+abbrev pub after_ticks : Format → ℕ → List (List ℕ) → Result Command ℕ
+after_ticks format ticks [] = Err 2
+after_ticks format ticks (w ∷ ws) = with_seed format ticks (number_in 0 greatest_seed w) ws
+
+abbrev pub with_ticks : Format → Option ℕ → List (List ℕ) → Result Command ℕ
+with_ticks format None others = Err 1
+with_ticks format (Some ticks) others = after_ticks format ticks others
+
+abbrev pub after_run : Format → List (List ℕ) → Result Command ℕ
+after_run format [] = Err 1
+after_run format (w ∷ ws) = with_ticks format (number_in 1 most_ticks w) ws
+
+-- the length of a tick if no word sets it
+abbrev pub nanosecond : TickLength
+nanosecond = record { count = One; unit = Nanoseconds }
 
 abbrev pub with_from : Option ℕ → List (List ℕ) → Result Command ℕ
 with_from None others = Err 1
@@ -78,7 +116,8 @@ after_judge (w ∷ ws) = with_from (number_in 0 most_ticks w) ws
 abbrev pub command_of : List (List ℕ) → Result Command ℕ
 command_of [] = Err 0
 command_of (w ∷ ws) =
-    if bytes_eq w (codes "run") then after_run ws
+    if bytes_eq w (codes "run") then after_run Trace ws
+    else if bytes_eq w (codes "vcd") then after_run (Dump nanosecond) ws
     else if bytes_eq w (codes "judge") then after_judge ws
     else Err 0
 
@@ -86,7 +125,7 @@ command_of (w ∷ ws) =
 
 -- ticks, a seed and a case that there may be
 abbrev pub IsWithin : Command → Type 0
-IsWithin (Run ticks seed case) =
-    ((1 ≤ ticks) × (ticks ≤ most_ticks))
-    × ((seed ≤ greatest_seed) × IfSome case (λ k. (1 ≤ k) × (k ≤ most_cases)))
+IsWithin (Run a) =
+    ((1 ≤ a.ticks) × (a.ticks ≤ most_ticks))
+    × ((a.seed ≤ greatest_seed) × IfSome a.case (λ k. (1 ≤ k) × (k ≤ most_cases)))
 IsWithin (Judge from) = from ≤ most_ticks

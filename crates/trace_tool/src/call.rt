@@ -5,7 +5,7 @@ ghost use Rattle.trace_tool.specs.Simulator.{simulator};
 
 use crate::outcome::TraceOutcome;
 use crate::simulator::Simulator;
-use program_call::main_call;
+use program_call::{Omissions, main_call};
 use scald_base::{Sink, Source, Words};
 use std::alloc::Global;
 
@@ -26,5 +26,5 @@ pub fn trace_main<S: Source, K: Sink>(
     ensures call { IsCall simulator nothing_more words.now result
         (devices S.left S.faults K.taken K.faults) source.old source.new sink.old sink.new }
 {
-    main_call::<Simulator, S, K>(alloc, words, source, sink, &mut 0)
+    main_call::<Simulator, S, K>(alloc, words, source, sink, &mut Omissions::unasked())
 }

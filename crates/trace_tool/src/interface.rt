@@ -2,33 +2,13 @@
 
 ghost use Rattle.std.specs.Prelude.{◌≡◌, ◌<◌, ◌≤◌, ◌^◌, ◌-◌, length, MatchBool, slice_index_or, false};
 ghost use Rattle.scald_base.specs.Time.{period};
-ghost use Rattle.scald_base.specs.Clock.{IsEdge, back as slots_back, ideal as ideal_bit};
-ghost use Rattle.scald_base.specs.Fitting.{skew_of};
+ghost use Rattle.scald_base.specs.Clock.{IsEdge, ideal as ideal_bit};
 ghost use Rattle.pin_waves.specs.Meets.{Meets, MeetsClock, MeetsPrecision, MeetsStable, NearEdge};
 ghost use Rattle.trace_tool.specs.Interface.{IsConstant, IsShifted, KeepsClock, row_signal, steps_from};
 
 use assertion_syntax::{ideal, quiet};
 use scald_base::{AssertSpec, ClockSpec, Header, Spans};
-
-/// How early and how late a clock may come: as its name says, or else as the header does.
-fn skew_of(clock: &ClockSpec, default: (u16, u16)) -> (u16, u16)
-    ensures { result ≡ skew_of clock.now default }
-{
-    match clock.skew {
-        Some(skew) => skew,
-        None => default,
-    }
-}
-
-/// The slot so many before that of a tick.
-fn slot_back(h: &Header, tick: usize, by: usize) -> u16
-    requires { (tick < 2 ^ 20) × (by < 2 ^ 32) }
-    ensures is { result ≡ slots_back (period h.now) tick by }
-    ensures within { result < period h.now }
-{
-    let period = h.period() as usize;
-    ((tick + by * (period - 1)) % period) as u16
-}
+use trace_sim::{skew_of, slot_back};
 
 pub fn bit_at(row: &[bool], t: usize) -> bool
     ensures { result ≡ row_signal row.now t }

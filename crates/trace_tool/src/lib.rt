@@ -1,9 +1,10 @@
 //! The simulator: runs of a drawing's circuit, made and judged.
 //!
 //! `run T SEED` draws a run of so many ticks by the words of a generator that is seeded so, in a
-//! case if `case=K` follows; `judge F` says whether a trace is a run, and what breaks in it from
-//! tick F on. The program calls [`trace_main`], the main call of `program_call` for [`Simulator`]
-//! (`specs/Simulator`); `specs/Ran` says what `run` replies, and `specs/Judged` what `judge` does.
+//! case if `case=K` follows, and `vcd T SEED` writes the same run as a value change dump; `judge F`
+//! says whether a trace is a run, and what breaks in it from tick F on. The program calls
+//! [`trace_main`], the main call of `program_call` for [`Simulator`] (`specs/Simulator`);
+//! `specs/Ran` says what `run` and `vcd` reply, and `specs/Judged` what `judge` does.
 //!
 //! `specs/Trace` says what the lines of a trace are, and `specs/Reading` which is the first that is
 //! wrong; that they say every bit is a law in [`laws`]. [`first_stray`] finds the first net that
@@ -34,6 +35,7 @@ mod stray;
 mod window;
 
 // words and outcomes
+mod asked;
 mod outcome;
 mod words;
 
@@ -47,6 +49,7 @@ mod call;
 mod replies;
 mod simulator;
 
+pub use asked::{Asked, Format};
 pub use call::trace_main;
 pub use drawn::run;
 pub use element::Element;

@@ -33,7 +33,7 @@ pub enum TraceOutcome {
     /// There is no case of the number that was asked for: the drawing has so many. Nothing is
     /// written.
     NoCase(u32),
-    /// The trace would have more than 4,000,000 bits. Nothing is written.
+    /// The run would have more than 4,000,000 bits. Nothing is written.
     TooBig,
 }
 

@@ -4,7 +4,7 @@ use crate::drawn::run;
 use crate::judged::judge;
 use crate::outcome::TraceOutcome;
 use crate::words::{Command, read_words};
-use program_call::{Program, Reply};
+use program_call::{Omissions, Program, Reply};
 use scald_base::{CallEnd, NoMemory, Words};
 use std::alloc::Global;
 
@@ -39,7 +39,7 @@ impl Program for Simulator {
 
     fn most_bytes(command: Command) -> u32 {
         match command {
-            Command::Run { .. } => MOST_DRAWN,
+            Command::Run(_) => MOST_DRAWN,
             Command::Judge(_) => MOST_JUDGED,
         }
     }
@@ -48,10 +48,10 @@ impl Program for Simulator {
         alloc: Global,
         command: Command,
         text: &[u8],
-        _undriven: &mut u32,
+        _omissions: &mut Omissions,
     ) -> Result<Reply<TraceOutcome>, NoMemory> {
         match command {
-            Command::Run { ticks, seed, case } => run(alloc, text, ticks, seed, case),
+            Command::Run(asked) => run(alloc, text, asked),
             Command::Judge(from) => judge(alloc, text, from),
         }
     }

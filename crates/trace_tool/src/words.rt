@@ -2,10 +2,12 @@
 
 ghost use Rattle.std.specs.Prelude.{◌≡◌, ◌-◌, ◌^◌, ◌≤◌, IfOk, IfSome, min};
 ghost use Rattle.scald_lex.specs.Bytes.{value_of};
-ghost use Rattle.trace_tool.specs.Words.{IsWithin, alone, after_case, after_judge, after_run, after_seed, after_ticks, case_of, command_of, number_in};
+ghost use Rattle.trace_tool.specs.Words.{IsWithin, alone, after_case, after_judge, after_run, after_seed, after_ticks, case_of, command_of, number_in, tick_asked};
 
+use crate::asked::{Asked, Format};
 use itoa::Buffer;
 use scald_base::{Bytes, Words};
+use value_change_dump::TickLength;
 
 /// The most ticks of a run.
 const MOST_TICKS: u64 = 4096;
@@ -16,13 +18,8 @@ const MOST_CASES: u64 = 256;
 /// What the simulator is asked for.
 #[derive(Clone, Copy, PartialEq, Eq, Debug)]
 pub enum Command {
-    /// `run`: a run of 1 to 4,096 ticks, drawn by a seed, and in a case of 1 to 256 if one is
-    /// asked for.
-    Run {
-        ticks: u16,
-        seed: u64,
-        case: Option<u16>,
-    },
+    /// `run` and `vcd`: a run.
+    Run(Asked),
     /// `judge`: what is to be said of a trace, with breaks from a tick of 0 to 4,096 on.
     Judge(u16),
 }
@@ -37,7 +34,9 @@ pub fn read_words(words: &Words) -> Result<Command, u32>
         return Err(0);
     };
     if first.as_slice() == b"run".as_slice() {
-        after_run(others)
+        after_run(Format::Trace, others)
+    } else if first.as_slice() == b"vcd".as_slice() {
+        after_run(Format::Dump(TickLength::NANOSECOND), others)
     } else if first.as_slice() == b"judge".as_slice() {
         after_judge(others)
     } else {
@@ -58,54 +57,89 @@ fn alone(command: Command, place: u32, others: &[Bytes]) -> Result<Command, u32>
     }
 }
 
-/// What the words after `run` ask for.
-fn after_run(words: &[Bytes]) -> Result<Command, u32>
-    ensures is { result ≡ after_run words.now }
+/// What the words after `run` or `vcd` ask for.
+fn after_run(format: Format, words: &[Bytes]) -> Result<Command, u32>
+    ensures is { result ≡ after_run format words.now }
     ensures within { IfOk result IsWithin }
 {
     let [first, others @ ..] = words else {
         return Err(1);
     };
     match number_in(1, MOST_TICKS, first.as_slice()) {
-        Some(ticks) => after_ticks(ticks as u16, others),
+        Some(ticks) => after_ticks(format, ticks as u16, others),
         None => Err(1),
     }
 }
 
 /// What the words after the number of ticks ask for.
-fn after_ticks(ticks: u16, words: &[Bytes]) -> Result<Command, u32>
+fn after_ticks(format: Format, ticks: u16, words: &[Bytes]) -> Result<Command, u32>
     requires { (1 ≤ ticks) × (ticks ≤ 4096) }
-    ensures is { result ≡ after_ticks ticks words.now }
+    ensures is { result ≡ after_ticks format ticks words.now }
     ensures within { IfOk result IsWithin }
 {
     let [first, others @ ..] = words else {
         return Err(2);
     };
     match number_in(0, u64::MAX, first.as_slice()) {
-        Some(seed) => after_seed(ticks, seed, others),
+        Some(seed) => after_seed(format, ticks, seed, others),
         None => Err(2),
     }
 }
 
 /// What the words after the seed ask for.
-fn after_seed(ticks: u16, seed: u64, words: &[Bytes]) -> Result<Command, u32>
+fn after_seed(format: Format, ticks: u16, seed: u64, words: &[Bytes]) -> Result<Command, u32>
     requires { (1 ≤ ticks) × (ticks ≤ 4096) }
-    ensures is { result ≡ after_seed ticks seed words.now }
+    ensures is { result ≡ after_seed format ticks seed words.now }
     ensures within { IfOk result IsWithin }
 {
+    let mut asked = Asked {
+        ticks,
+        seed,
+        case: None,
+        format,
+    };
     let [first, others @ ..] = words else {
-        return Ok(Command::Run {
-            ticks,
-            seed,
-            case: None,
-        });
+        return Ok(Command::Run(asked));
     };
     match case_of(first.as_slice()) {
         Some(case) => {
-            let case = Some(case as u16);
-            alone(Command::Run { ticks, seed, case }, 4, others)
+            asked.case = Some(case as u16);
+            after_case(asked, 4, others)
         }
-        None => Err(3),
+        None => after_case(asked, 3, words),
+    }
+}
+
+/// What the words after the case ask for, of which the first has this number: a dump may have the
+/// length of its ticks.
+fn after_case(asked: Asked, place: u32, words: &[Bytes]) -> Result<Command, u32>
+    requires within { IsWithin (Command.Run asked) }
+    requires few { place ≤ 4 }
+    ensures is { result ≡ after_case asked place words.now }
+    ensures within { IfOk result IsWithin }
+{
+    let [first, others @ ..] = words else {
+        return Ok(Command::Run(asked));
+    };
+    match asked.format {
+        Format::Trace => Err(place),
+        Format::Dump(_) => match tick_asked(first.as_slice()) {
+            Some(tick) => {
+                let format = Format::Dump(tick);
+                alone(Command::Run(Asked { format, ..asked }), place + 1, others)
+            }
+            None => Err(place),
+        },
+    }
+}
+
+/// The length of a tick that a word asks for.
+fn tick_asked(word: &[u8]) -> Option<TickLength>
+    ensures { result ≡ tick_asked word.now }
+{
+    match word.strip_prefix(b"tick=") {
+        Some(text) => TickLength::of(text),
+        None => None,
     }
 }
 

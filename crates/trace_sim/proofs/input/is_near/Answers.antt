@@ -10,14 +10,14 @@ pub returns-then-is_edge : goal.returns-then-is_edge
 returns-then-is_edge c =
     let test = λ (k : ℕ). is_edge c.args.clock.now c.args.h.now c.args.to (back (period c.args.h.now) (c.args.slot + c.args.skew.0) k) in
     let found : test c.loop-by.by ≡ true =
-    sym (ap (λ (s : ℕ). is_edge c.args.clock.now c.args.h.now c.args.to s) c.slot_back.ensures) ∙ sym c.is_edge.ensures ∙ c.if-is_edge.true in
+    sym (ap (λ (s : ℕ). is_edge c.args.clock.now c.args.h.now c.args.to s) c.slot_back.ensures.is) ∙ sym c.is_edge.ensures ∙ c.if-is_edge.true in
     sym (some_of test 0 (c.args.skew.0 + c.args.skew.1 + 1) c.loop-by.by (omega (arith, c.loop-by-test.true)) (subst (λ k. test k ≡ true) (omega arith) found))
 
 pub loop-by-preserved : goal.loop-by-preserved
 loop-by-preserved c =
     let test = λ (k : ℕ). is_edge c.args.clock.now c.args.h.now c.args.to (back (period c.args.h.now) (c.args.slot + c.args.skew.0) k) in
     let none : test c.loop-by.by ≡ false =
-    sym (ap (λ (s : ℕ). is_edge c.args.clock.now c.args.h.now c.args.to s) c.slot_back.ensures) ∙ sym c.is_edge.ensures ∙ c.if-is_edge.false in
+    sym (ap (λ (s : ℕ). is_edge c.args.clock.now c.args.h.now c.args.to s) c.slot_back.ensures.is) ∙ sym c.is_edge.ensures ∙ c.if-is_edge.false in
     next_one (λ k. test k ≡ false) c.loop-by.by c.loop-by.invariant none
 
 pub returns : goal.returns

@@ -1,5 +1,4 @@
-use Rattle.std.proofs.Common.{◌≡◌, ℕ, ◌*◌, List, ◌++◌, length, ap, ◌∙◌, arith}
-use Rattle.trace_tool.specs.Trace.{trace_text}
+use Rattle.std.proofs.Common.{◌≡◌, ◌*◌, length, arith}
 use Rattle.trace_tool.proofs.Replying.{big_reply, done_reply}
 use Rattle.trace_tool.proofs.drawn.run_in.Goals as goal
 
@@ -8,8 +7,8 @@ returns-then-from-gt-MOST_BITS c =
     let nets = c.net_count.ensures in
     let first = c.from.ensures in
     let second = c.from-2.ensures in
-    let product : c.from.result * c.from-2.result ≡ length c.args.c.now.nets * c.args.ticks = cc in
-    big_reply c.args.ticks c.args.seed c.args.c.now c.args.values.now c.silent.result.outcome c.silent.result.bytes (omega (arith, product))
+    let product : c.from.result * c.from-2.result ≡ length c.args.c.now.nets * c.args.asked.ticks = cc in
+    big_reply c.args.asked c.args.name.now c.args.c.now c.args.values.now c.silent.result.outcome c.silent.result.bytes (omega (arith, product))
     c.silent.ensures.outcome c.silent.ensures.bytes
 
 pub returns : goal.returns
@@ -17,8 +16,6 @@ returns c =
     let nets = c.net_count.ensures in
     let first = c.from.ensures in
     let second = c.from-2.ensures in
-    let product : c.from.result * c.from-2.result ≡ length c.args.c.now.nets * c.args.ticks = cc in
-    done_reply c.args.ticks c.args.seed c.args.c.now c.args.values.now c.in_ok-trace.trace c.write_trace.new.out (omega (arith, product))
-    c.in_ok-trace.ensures
-    (c.in_ok-write_trace.ensures.ok
-    ∙ ap (λ (front : List ℕ). front ++ trace_text c.args.c.now c.in_ok-trace.trace) c.new-bytes.ensures)
+    let product : c.from.result * c.from-2.result ≡ length c.args.c.now.nets * c.args.asked.ticks = cc in
+    done_reply c.args.asked c.args.name.now c.args.c.now c.args.values.now c.in_ok-trace.trace c.in_ok-bytes.bytes (omega (arith, product))
+    c.in_ok-trace.ensures c.in_ok-bytes.ensures

@@ -14,18 +14,18 @@ run_in-requires-in-Some-get c =
 
 pub returns-in-None : goal.returns-in-None
 returns-in-None c =
-    none_reply c.args.ticks c.args.seed c.args.case c.args.c.now c.args.cases.now c.run_in-in-None.result c.new.result c.in-None.is c.new.ensures
+    none_reply c.args.asked c.args.name.now c.args.c.now c.args.cases.now c.run_in-in-None.result c.new.result c.in-None.is c.new.ensures
     c.run_in-in-None.ensures
 
 pub returns-in-None-get : goal.returns-in-None-get
 returns-in-None-get c =
-    no_case_reply c.args.ticks c.args.seed c.args.case c.args.c.now c.args.cases.now c.in-Some.k c.silent.result.outcome c.silent.result.bytes
+    no_case_reply c.args.asked c.args.name.now c.args.c.now c.args.cases.now c.in-Some.k c.silent.result.outcome c.silent.result.bytes
     c.in-Some.is
-    (past_last c.args.cases.now c.args.case c.in-Some.k c.in-Some.is c.requires.from_one (sym c.get.ensures ∙ ap option_copied c.in-None-get.is))
+    (past_last c.args.cases.now c.args.asked.case c.in-Some.k c.in-Some.is c.requires.from_one (sym c.get.ensures ∙ ap option_copied c.in-None-get.is))
     (c.silent.ensures.outcome ∙ ap (λ (n : ℕ). NoCase n) c.len.ensures)
     c.silent.ensures.bytes
 
 pub returns-in-Some-get : goal.returns-in-Some-get
 returns-in-Some-get c =
-    some_reply c.args.ticks c.args.seed c.args.case c.args.c.now c.args.cases.now c.run_in-in-Some-get.result c.in-Some.k c.in-Some-get.values.now
+    some_reply c.args.asked c.args.name.now c.args.c.now c.args.cases.now c.run_in-in-Some-get.result c.in-Some.k c.in-Some-get.values.now
     c.in-Some.is (sym c.get.ensures ∙ ap option_copied c.in-Some-get.is) c.run_in-in-Some-get.ensures

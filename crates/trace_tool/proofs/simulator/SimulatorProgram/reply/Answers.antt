@@ -1,4 +1,4 @@
-use Rattle.std.proofs.Common.{IfOk, subst, sym}
+use Rattle.std.proofs.Common.{subst, sym}
 use Rattle.trace_tool.specs.declared.words.Command.{Command}
 use Rattle.trace_tool.specs.Simulator.{Replied}
 use Rattle.trace_tool.proofs.Made.{Gives}

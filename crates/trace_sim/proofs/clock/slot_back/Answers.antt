@@ -1,6 +1,6 @@
 use Rattle.std.proofs.Common.{ℕ, ◌+◌, ◌*◌, ◌-◌, ◌%◌, ap}
 use Rattle.scald_base.specs.Clock.{back}
-use Rattle.trace_tool.proofs.interface.slot_back.Goals as goal
+use Rattle.trace_sim.proofs.clock.slot_back.Goals as goal
 
 pub returns-clause-is : goal.returns-clause-is
 unfolding back
