@@ -1,0 +1,6 @@
+use Rattle.std.proofs.Common.{◌≡◌, map, take}
+use Rattle.netlist_import.specs.Words.{base_byte}
+use Rattle.netlist_import.proofs.words.based.Given as goal
+
+abbrev pub invariant-loop-byte : goal.invariant-loop-byte
+invariant-loop-byte l = l.out ≡ map base_byte (take l.byte-index l.bytes)
