@@ -1,8 +1,12 @@
 """The texts that bench/run measures. Each function gives one of a size, as text or as bytes."""
 
+import json
 import random
+import re
+from pathlib import Path
 
 MOST_BYTES = 4194304
+YOSYS = Path(__file__).resolve().parent.parent / "examples" / "yosys"
 
 
 def drawing(lines, clock="8 x 50", macros=(), after=(), header=(), version=1):
@@ -170,6 +174,51 @@ def random_gates(gates):
         kind, one, other = draw.choice(("AND", "OR", "XOR")), draw.randrange(i), draw.randrange(i)
         lines.append(f'g{i} : {kind} [1:3] ("N{one}", "N{other}") -> ("N{i}");')
     return drawing(lines)
+
+
+def mapped(cells):
+    """512 flip-flops and gates of two inputs, drawn as in random_gates: the kind, inputs and output of each."""
+    draw = random.Random(1)
+    flops = 512
+    for i in range(flops):
+        yield "$_DFF_P_", {"C": "clk", "D": f"N{draw.randrange(flops, cells)}"}, {"Q": f"N{i}"}
+    for i in range(flops, cells):
+        kind = draw.choice(("$_AND_", "$_OR_", "$_XOR_"))
+        yield kind, {"A": f"N{draw.randrange(i)}", "B": f"N{draw.randrange(i)}"}, {"Y": f"N{i}"}
+
+
+def netlist(cells):
+    """The netlist of so many cells, as yosys writes it: JSON, for import."""
+    bits = {"clk": 2, **{f"N{i}": 3 + i for i in range(cells)}}
+    module = {
+        "attributes": {"top": "00000000000000000000000000000001", "src": "mapped.v:1.1-9.10"},
+        "ports": {"clk": {"direction": "input", "bits": [2]}},
+        "cells": {
+            f"$abc$1$auto$blifparse.cc:377:parse_blif${i}": {
+                "hide_name": 1,
+                "type": kind,
+                "parameters": {},
+                "attributes": {},
+                "port_directions": {**{port: "input" for port in ins}, **{port: "output" for port in outs}},
+                "connections": {port: [bits[net]] for port, net in {**ins, **outs}.items()},
+            }
+            for i, (kind, ins, outs) in enumerate(mapped(cells))
+        },
+        "netnames": {net: {"hide_name": 0, "bits": [bit], "attributes": {}} for net, bit in bits.items()},
+    }
+    text = json.dumps({"creator": "Yosys 0.23", "modules": {"top": module}}, indent=2)
+    return re.sub(r"\[\s+(\d+)\s+\]", r"[ \1 ]", text)
+
+
+def imported(cells):
+    """What import makes of that netlist, with the macros of examples/yosys and a drawing."""
+    lines = ['MACRO top ("clk");']
+    for i, (kind, ins, outs) in enumerate(mapped(cells)):
+        given, taken = (", ".join(f'"{net}"' for net in nets.values()) for nets in (ins, outs))
+        lines.append(f"  c{i} : n_{kind[1:]} ({given}) -> ({taken});")
+    lines += ["END;", "DRAWING MEASURED;", '  u : top ("CK .P2-3");', "END;"]
+    parts = [(YOSYS / name).read_text(encoding="ascii") for name in ("header.scald", "cells.scald")]
+    return "".join(parts).replace("CLOCK 8 x 25;", "CLOCK 8 x 50;") + "\n".join(lines) + "\n"
 
 
 def undriven(names):

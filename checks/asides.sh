@@ -1,7 +1,7 @@
 #!/bin/sh
 # What standard error says beside an answer: to sections that are joined, which global nets cross, which no section
-# drives and which no other takes; to one drawing, how many nets nothing determines. Usage: checks/asides.sh [PROGRAM]. If none is named and none is built it says so and ends
-# with 0.
+# drives and which no other takes; to one drawing, how many nets nothing determines, and how many notes need no waves.
+# Usage: checks/asides.sh [PROGRAM]. If none is named and none is built it says so and ends with 0.
 . "$(dirname -- "$0")/common.sh"
 begin "${1-}"
 
@@ -142,4 +142,73 @@ answers format 'b : BUF [1:2] ("A") -> ("B");'
 said 'of a text that is printed'
 answers verify 'b : BUF [2:1] ("A") -> ("B");'
 ! grep -q STABLE "$work/said" || failure 'a refused text: STABLE'
+
+# how many notes there are, of each kind and of several: just some, and just none
+note='scald: 1 note: scald notes'
+notes='scald: 2 notes: scald notes'
+driven='b1 : BUF [1:1] ("D .S1-4"<0:1>) -> ("X"<0:1>);'
+answers verify "$driven" 'b2 : BUF [1:1] ("X"<0:2>) -> ("Y .S2-6"<0:2>);'
+said 'a bit that is not driven' "$one" "$note"
+answers verify "$driven" 'b2 : BUF [1:1] ("X"<0:3>) -> ("Y .S2-6"<0:3>);'
+said 'two of them' "$two" "$notes"
+answers verify "$driven" 'b2 : BUF [1:1] ("X"<0:1>) -> ("Y .S2-6"<0:1>);'
+said 'all bits are driven'
+answers verify "$driven" 'WIRE "X"<2> 0:1;'
+said 'a bit that no pin is on' "$one"
+answers verify 'b1 : BUF [1:1] ("DATO") -> ("A .S");' 'b2 : BUF [1:1] ("DAT0 .S1-4") -> ("B .S2-6");'
+said 'a name one slip apart' "$one" "$note"
+answers verify 'b1 : BUF [1:1] ("DATo") -> ("A .S");' 'b2 : BUF [1:1] ("DAT0 .S1-4") -> ("B .S2-6");'
+said 'a name two slips apart' "$one"
+answers verify 'FOR I = 1 TO 0 DO END;'
+said 'a FOR without a turn' "$note"
+answers verify 'FOR I = 1 TO 0 DO END;' 'FOR I = 1 TO 0 DO END;'
+said 'two of them' "$notes"
+answers verify 'FOR I = 1 TO 1 DO END;'
+said 'a FOR with one'
+answers verify 'IF 0 THEN FOR I = 1 TO 0 DO END; END;'
+said 'a FOR that is not reached'
+both='b : AND [1:1] ("S", "D .S1-4") -> ("A .S");'
+cases='CASE "S"=0;
+CASE "S"=1;
+CASE "S"=0;
+'
+answers verify "$both"
+said 'a case again' "$note"
+cases='CASE "S"=0;
+'
+answers verify "$both"
+said 'a bit that no case has' "$note"
+answers verify "$both" 'FOR I = 1 TO 0 DO END;'
+said 'two kinds' "$notes"
+cases='CASE "S"=0;
+CASE "S"=0;
+'
+answers verify "$both"
+said 'one case twice' "$notes"
+answers verify "$both" "$driven" 'b2 : BUF [1:1] ("X"<0:2>) -> ("Y .S2-6"<0:2>);' \
+    'b3 : BUF [1:1] ("DATO") -> ("P .S");' 'b4 : BUF [1:1] ("DAT0 .S1-4") -> ("Q .S2-6");' 'FOR I = 1 TO 0 DO END;'
+said 'all kinds' "$two" 'scald: 5 notes: scald notes'
+cases='CASE "S"=0;
+CASE "S"=1;
+'
+answers verify "$both"
+said 'each case once'
+unset cases
+answers verify 'c : SETUP_HOLD_CHK {SETUP=60} ("CK .P2-3", "D .S2-4");' 'FOR I = 1 TO 0 DO END;'
+said 'a note beside a fault' "$note"
+answers verify 'l : BUF [1:1] ("L") -> ("L");' 'b : BUF [1:1] ("D .S1-4"<0:1>) -> ("E"<0:1>);'
+said 'kinds that are not counted'
+for word in format upgrade margins chains slack explain notes; do
+    answers "$word" "$both" 'FOR I = 1 TO 0 DO END;'
+    said "of $word"
+done
+answers verify 'b : BUF [2:1] ("A") -> ("B");' 'FOR I = 1 TO 0 DO END;'
+! grep -q 'scald notes' "$work/said" || failure 'a refused text: notes'
+answers verify 'a : BUF [1:1] (ZERO) -> ("B");' 'b : BUF [1:1] (ONE) -> ("B");' 'FOR I = 1 TO 0 DO END;'
+! grep -q 'scald notes' "$work/said" || failure 'a text that is refused once it is expanded: notes'
+answers verify "$driven" 'b2 : BUF [1:1] ("X"<0:1>) -> ("Y .S2-6"<0:1>);' 'FOR I = 1 TO 0 DO END;'
+said 'a text that settles' "$note"
+"$program" verify rounds=1 <"$work/text" >"$work/out" 2>"$work/said"
+[ $? -eq 3 ] || failure 'rounds=1: another status'
+! grep -q 'scald notes' "$work/said" || failure 'a text that does not settle: notes'
 ended

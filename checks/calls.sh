@@ -14,7 +14,8 @@
 # period of 8 units of 50 ticks, the first of them on line 4 of its text; below `drawing in version 2:` those of one in
 # version 2 of the language; and below `text:` a whole text. Drawings that are sections have a line ===== between them.
 # A line of a text that ends in \r ends in the bytes 13 and 10, and one that ends in \ has no end of line. After the
-# status stands `unread` if nothing is read, and below it standard output.
+# status stands `unread` if nothing is read, and below it standard output. Beside the report on each drawing that has
+# notes here, standard error says how many of them need no waves.
 # Usage: checks/calls.sh [PROGRAM]. If none is named and none is built it says so and ends with 0.
 . "$(dirname -- "$0")/common.sh"
 begin "${1-}"
@@ -75,6 +76,20 @@ calls() {
     fi
 }
 
+# counts NAME ROW: `verify` of the text of a row of notes says on standard error how many of them are PART, NEAR, EMPTY
+# and CASES, and nothing of them if it has no verdict
+counts() {
+    trying "$1: counted"
+    count=$(grep -Ec '^NOTE (PART|NEAR|EMPTY|CASES) ' "$2.want")
+    case $count in
+    0) : ;;
+    1) echo 'scald: 1 note: scald notes' ;;
+    *) echo "scald: $count notes: scald notes" ;;
+    esac >"$work/count"
+    "$program" verify <"$2.text" 2>&1 >/dev/null | grep ' scald notes$' | cmp -s - "$work/count" ||
+        failure "$1: another count of notes"
+}
+
 for topic in "$top"/checks/calls/*.txt; do
     rows_of "$topic"
     for row in "$work"/rows/*.words; do
@@ -82,6 +97,7 @@ for topic in "$top"/checks/calls/*.txt; do
         name="$(basename -- "$topic" .txt): $(cat "$row.name")"
         while IFS= read -r words; do
             calls "$name" "$row" "$words"
+            [ "$words" != notes ] || counts "$name" "$row"
         done <"$row.words"
     done
 done

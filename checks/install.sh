@@ -94,7 +94,7 @@ if ! passed_over groff; then
     tr -s ' \n' '  ' <"$work/out" | sed 's/- //g' >"$work/page"
     for text in 'verify [waves|faults] [rounds=N] [FILE ..]' 'bench N' 'install PREFIX' '--unproved' \
         '20 The arguments are unavailable' '23 scald install cannot write' \
-        'The statuses of run and judge:' '11 The trace would have more than 4,000,000 bits' 'WAVE net SKEW s v:w v:w ..' \
+        'The statuses of run, vcd and judge:' '11 The run would have more than 4,000,000 bits' 'WAVE net SKEW s v:w v:w ..' \
         'FAULT WIDTH w1<0> LOW FROM 150 WIDTH 350' "$prefix/share/vim/vimfiles" \
         'c1 : SETUP_HOLD_CHK {SETUP=20, HOLD=10} ("CK .P2-3", "D .S1-4");' 'WAVE D<0> SKEW 0 C:51 S:149 C:200'; do
         has 'the manual' "$work/page" "$text"
@@ -142,6 +142,7 @@ mkdir -p "$work/typed/sub folder"
 : >"$work/typed/row.scald"
 : >"$work/typed/vast.scald"
 : >"$work/typed/notes.txt"
+: >"$work/typed/cpu.json"
 cat >"$work/offer" <<'END'
 . "$1"
 shift
@@ -160,8 +161,8 @@ offers() {
 LC_ALL=C
 export LC_ALL
 if ! passed_over bash; then
-    offers '--help;--quiet;--unproved;--version;-h;bench;chains;explain;format;install;judge;margins;notes;run;sections;slack;upgrade;verify' scald ''
-    offers 'verify' scald v
+    offers '--help;--quiet;--unproved;--version;-h;bench;chains;explain;format;import;install;judge;margins;notes;run;sections;slack;upgrade;vcd;verify' scald ''
+    offers 'vcd;verify' scald v
     offers '--unproved' scald --u
     offers 'format' scald --quiet f
     offers 'faults;rounds=;row.scald;sub folder;vast.scald;waves' scald verify ''
@@ -171,7 +172,9 @@ if ! passed_over bash; then
     offers 'sub folder' scald upgrade s
     offers '' scald bench ''
     offers 'case=' scald run c
+    offers 'tick=' scald vcd t
     offers 'vast.scald' scald judge 0 v
+    offers 'cells;cpu.json;sub folder' scald import ''
     offers 'sub folder' scald install ''
     offers '' scald verify none
     trying 'bash: complete'
@@ -183,8 +186,8 @@ if ! passed_over zsh; then
     warned 'zsh warns'
     # a line that is typed, and what is offered after it
     cat >"$work/rows" <<'END'
-scald |bench;chains;explain;format;install;judge;margins;notes;run;sections;slack;upgrade;verify
-scald v|verify
+scald |bench;chains;explain;format;import;install;judge;margins;notes;run;sections;slack;upgrade;vcd;verify
+scald v|vcd;verify
 scald --u|--unproved
 scald --quiet f|format
 scald verify |faults;rounds=;row.scald;sub folder;vast.scald;waves
@@ -194,7 +197,9 @@ scald format |row.scald;sub folder;vast.scald
 scald upgrade s|sub folder
 scald bench |
 scald run c|case=
+scald vcd t|tick=
 scald judge 0 v|vast.scald
+scald import |cells;cpu.json;sub folder
 scald install |sub folder
 END
     cut -d '|' -f 1 "$work/rows" |

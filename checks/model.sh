@@ -1,9 +1,9 @@
 #!/bin/sh
 # Compares the built program with checks/model, a model that is written from the documents, over random drawings, and
 # then over a tenth as many random lists of sections: of the report, the notes, the margins, the chains and the slacks
-# of drawings, and of the report on sections, bytes and status must be the same. 20000 drawings are to be
-# tried by hand, in some minutes; --short tries the first 2000 of them, in about half a minute, which ./check does. It
-# ends with the answers that came, and the time that it took.
+# of drawings, and of the report on sections, bytes and status must be the same, and beside a report how many notes
+# standard error counts. 20000 drawings are to be tried by hand, in some minutes; --short tries the first 2000 of them,
+# in about half a minute, which ./check does. It ends with the answers that came, and the time that it took.
 # Usage: checks/model.sh [--short] [PROGRAM [COUNT [FIRST]]], COUNT drawings from number FIRST on; each number has
 # always the same drawing. Needs python3.
 # Where an answer is wrong the text and both answers are kept in the folder KEPT, or else in the temporary one.

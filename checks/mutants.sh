@@ -1,7 +1,8 @@
 #!/bin/sh
 # Tries wrong edits, each of which the prover has to refuse, on a copy of the repository. checks/mutants/CRATE/NAME.edit
 # has the form of the edits in crates/*/must-fail, which are the few that every gate tries. These are tried by hand: an
-# edit takes up to a minute, after the proofs of its crate and of the crates below.
+# edit takes up to a minute, after the proof of its crate. The crates below are proved too, but for those of which `rt
+# check` has built the library here, from the same text.
 # What each comes to is compared with checks/mutants/last, a line for each edit: whether it was refused and, if that
 # is written, by what. --keep writes there what this run found. --list says which edits there are, and tries none.
 # Usage: checks/mutants.sh [--keep | --list] [CRATE ..]. It ends with 0 if each edit is refused as before.
@@ -37,6 +38,11 @@ trap 'rm -rf "$work"' EXIT
 trap 'exit 2' HUP INT TERM
 mkdir "$work/copy" || exit 2
 (cd "$top" && tar -cf - --exclude='crates/*/out' crates crates.txt HANDLES) | tar -xf - -C "$work/copy" || exit 2
+for built in "$top"/crates/*/out/rlib; do
+    [ -f "$built/stamp" ] || continue
+    out=$work/copy/${built#"$top/"}
+    mkdir -p "$out" && { cp -al "$built/." "$out" 2>"$work/said" || cp -a "$built/." "$out"; } || exit 2
+done
 for crate in "$@"; do
     rm -rf "$work/copy/crates/$crate/must-fail"
     mkdir "$work/copy/crates/$crate/must-fail" || exit 2

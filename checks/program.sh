@@ -176,7 +176,9 @@ forms='usage:
     scald chains <DRAWING                              where each fault comes from
     scald sections <DRAWINGS                           verify of drawings with a line ===== between them, each by itself and joined
     scald run T SEED [case=K] <DRAWING                 a run of T ticks that a seed draws, 1 to 4096, as a trace
+    scald vcd T SEED [case=K] [tick=1ns] <DRAWING      the same run as a value change dump, for a wave viewer
     scald judge F <TRACE-AND-DRAWING                   whether the trace is a run, and what breaks in it from tick F on
+    scald import [cells] <NETLIST                      macros of a netlist that yosys wrote as JSON, or of its kinds of cells, to fill in
     scald bench N                                      what is found in a made drawing of N sections, 1 to 200'
 
 # none LINE WORD ..: no form has these words, the line says which is wrong, if one is, and nothing is read for them:
@@ -290,8 +292,25 @@ none "'case=0' cannot come after '0': K is 1 to 256, without zeros in front" run
 none "'case=257' cannot come after '0': K is 1 to 256, without zeros in front" run 6 0 case=257
 none "'cases=2' cannot come after '0': is case=K meant?" run 6 0 cases=2
 none "'x' cannot come after 'case=1'" run 6 0 case=1 x
+none "a word is missing after 'vcd'" vcd
+none "a word is missing after '6'" vcd 6
+none "'0' cannot come after 'vcd': T is 1 to 4096, without zeros in front" vcd 0 7
+none "'x' cannot come after '6': SEED is 0 to 18446744073709551615, without zeros in front" vcd 6 x
+none "'case=0' cannot come after '7': K is 1 to 256, without zeros in front" vcd 6 7 case=0
+ticks=': a tick is 1, 10 or 100 s, ms, us, ns, ps or fs, as in tick=10us'
+none "'tick=2ns' cannot come after '7'$ticks" vcd 6 7 tick=2ns
+none "'tick=1' cannot come after 'case=1'$ticks" vcd 6 7 case=1 tick=1
+none "'Tick=1ns' cannot come after '7': is tick=1ns meant?" vcd 6 7 Tick=1ns
+none "'case=1' cannot come after 'tick=1ns'" vcd 6 7 tick=1ns case=1
+none "'tick=2ns' cannot come after 'tick=1ns'" vcd 6 7 tick=1ns tick=2ns
+none "'tick=1ns' cannot come after '7'" run 6 7 tick=1ns
+none "'x' cannot come after 'tick=10us'" vcd 6 7 case=1 tick=10us x
+none "unknown command 'vdc': is vcd meant?" vdc
 none "'x' cannot come after '1'" judge 1 x
 none "unknown command 'Judge': is judge meant?" Judge
+none "'design' cannot come after 'import'" import design
+none "'cells' cannot come after 'cells'" import cells cells
+none "'cpu.json' cannot come after 'import'$input" import cpu.json
 for number in '' 0 01 +1 4097 65537 4294967297; do
     none "'$number' cannot come after 'run': T is 1 to 4096, without zeros in front" run "$number" 0
 done
@@ -444,7 +463,7 @@ printf 'RUN\nINTERFACE\nNO BREAK\n' >"$work/want"
 cat "$work/trace" "$work/text" | "$program" judge 0 >"$work/out"
 expect "its verdict" 0 $?
 "$program" run 4000 1 <"$work/more" >"$work/out" 2>"$work/said"
-says "a trace of more bits" 11 'scald: the trace would have more than 4000000 bits' $?
+says "a trace of more bits" 11 'scald: the run would have more than 4000000 bits' $?
 "$program" run 6 0 case=2 <"$first" >"$work/out" 2>"$work/said"
 says "no such case" 10 'scald: the drawing has no such case: it has 0' $?
 "$program" judge 0 <"$first" >"$work/out" 2>"$work/said"

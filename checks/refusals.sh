@@ -6,12 +6,12 @@
 begin "${1-}"
 
 # answers WORD STATUS WANT: the program's answer to $work/text, and in $work/said what standard error says: nothing but
-# printable bytes, so no colours, and with status 0 at most how many nets nothing determines
+# printable bytes, so no colours, and with status 0 at most how many nets nothing determines and how many notes there are
 answers() {
     "$program" "$1" <"$work/text" >"$work/out" 2>"$work/said"
     status=$?
     ! LC_ALL=C grep -q '[^ -~]' "$work/said" || failure "$1: bytes that are not printable on standard error"
-    [ "$2" -ne 0 ] || ! grep -qv ' neither a driver nor an assertion, ' "$work/said" ||
+    [ "$2" -ne 0 ] || ! grep -Eqv ' neither a driver nor an assertion, | notes?: scald notes$' "$work/said" ||
         failure "$1: status 0, and this is said: $(head -n 1 "$work/said")"
     if [ "$status" -ne "$2" ] || { [ -n "$3" ] && ! printf '%s\n' "$3" | cmp -s - "$work/out"; }; then
         failure "$1: status $status in place of $2, '$(head -n 1 "$work/out")' in place of '$3':"

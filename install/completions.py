@@ -15,6 +15,8 @@ def bash_case(command):
         offers.append('[[ ${COMPREPLY[0]-} == *= ]] && compopt -o nospace 2>/dev/null')
     if command.takes == "FILES":
         offers.append("_scald_names -f -X '!*.scald'")
+    if command.takes == "NETLISTS":
+        offers.append("_scald_names -f -X '!*.json'")
     if command.takes == "JOINED":
         offers.append("_scald_names -f")
     if command.takes == "PREFIX":
@@ -76,6 +78,8 @@ def zsh_case(command):
         offers.append(f"compadd -S '' -- {' '.join(command.fronts)}")
     if command.takes == "FILES":
         offers.append("_files -g '*.scald'")
+    if command.takes == "NETLISTS":
+        offers.append("_files -g '*.json'")
     if command.takes == "JOINED":
         offers.append("_files")
     if command.takes == "PREFIX":

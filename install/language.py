@@ -25,7 +25,7 @@ class Command(NamedTuple):
     choices: tuple  # words of which one may come
     settings: tuple  # what may come as NAME=N
     numbers: tuple  # what has to come first, each by its letter or name
-    takes: str  # FILES, JOINED for files that are one text, PREFIX or nothing
+    takes: str  # FILES, NETLISTS, JOINED for files that are one text, PREFIX or nothing
     says: str
 
     @property
@@ -34,7 +34,8 @@ class Command(NamedTuple):
         parts = [self.word, *self.numbers]
         parts += [f"[{'|'.join(self.choices)}]"] if self.choices else []
         parts += [f"[{setting}]" for setting in self.settings]
-        parts += [{"FILES": "[FILE ..]", "JOINED": "[TRACE DRAWING]"}.get(self.takes, self.takes)] if self.takes else []
+        named = {"FILES": "[FILE ..]", "NETLISTS": "[NETLIST ..]", "JOINED": "[TRACE DRAWING]"}
+        parts += [named.get(self.takes, self.takes)] if self.takes else []
         return " ".join(parts)
 
     @property
@@ -50,7 +51,7 @@ class Language(NamedTuple):
     commands: tuple
     options: tuple  # Rows, of which a name may have several spellings with commas between
     statuses: tuple
-    run_statuses: tuple  # those of `run` and `judge`
+    run_statuses: tuple  # those of `run`, `vcd` and `judge`
     report_lines: tuple
     report_items: tuple
     fault_lines: tuple
@@ -112,11 +113,12 @@ def keywords_of(text):
     return tuple(word for word in capital if word not in constants_of(text))
 
 
-def taking_files(words):
+def taking_files(words, commands):
     """The words that the names of files may follow, each with how these are taken."""
-    apart = spelled(re.search(r"after those of (.*?) it takes the names of files", words, re.I)[1])
+    alone = spelled(re.search(r"after those of each command but (\S*) it takes file names", words)[1])
     joined = spelled(re.search(r"The files of (\S*), a trace", words)[1])
-    return {word: "FILES" for word in apart} | {word: "JOINED" for word in joined}
+    apart = {spelled(forms)[0].split()[0] for forms, _ in commands} - set(alone)
+    return {word: "FILES" for word in apart} | {"import": "NETLISTS"} | {word: "JOINED" for word in joined}
 
 
 def command_of(forms, says, with_files):
@@ -137,17 +139,19 @@ def read_language(text):
     words = section(text, "Words and statuses")
     report = section(text, "The report")
     own = table(words, "Words of `./scald`")
-    commands = table(words, "Words") + [row for row in own if not row[0].startswith("`-")]
+    programs = table(words, "Words")
+    commands = programs + [row for row in own if not row[0].startswith("`-")]
+    with_files = taking_files(words, programs)
     bullets = re.findall(r"^- (.*)$", report, re.M)
     blocks = re.findall(r"(?:^    .*\n)+", report, re.M)
     return Language(
         keywords=keywords_of(text),
         constants=constants_of(text),
         kinds=kinds_of(text),
-        commands=tuple(command_of(*row, taking_files(words)) for row in commands),
+        commands=tuple(command_of(*row, with_files) for row in commands),
         options=tuple(Row(", ".join(spelled(row[0])), row[1]) for row in own if row[0].startswith("`-")),
         statuses=tuple(Row(*row) for row in table(words, "Status")),
-        run_statuses=tuple(Row(*row) for row in table(section(text, "Runs"), "Status of `run` and `judge`")),
+        run_statuses=tuple(Row(*row) for row in table(section(text, "Runs"), "Status of `run`, `vcd` and `judge`")),
         report_lines=tuple(next(block for block in blocks if "SCALD v" in block).replace("    ", "").splitlines()),
         report_items=tuple(bullets),
         fault_lines=tuple(Row(spelled(row[0])[0], row[1]) for row in table(report, "Line")),

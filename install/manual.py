@@ -57,7 +57,7 @@ def is_before_words(option):
 
 def statuses(language):
     yield from items(language.statuses, " 4")
-    yield from (".PP", marked("The statuses of `run` and `judge`:"))
+    yield from (".PP", marked("The statuses of `run`, `vcd` and `judge`:"))
     yield from items(language.run_statuses, " 8")
 
 

@@ -4,7 +4,8 @@ Usage: python3 -B -m model PROGRAM COUNT [FIRST [sections]], with checks/ as PYT
 are lists of sections. One line is printed for each text: its number and Clean, Faulty, Unsettled, `Refused KIND`, BadCount
 or `BadSection RULE`; or, where bytes or status differ, FAILED and the names of the files that its text and both answers
 are kept in, in the folder KEPT or else in the temporary one. It stops where many have failed. Of each drawing the report,
-the notes, the margins, the chains, and the slacks as a table and as paragraphs are compared.
+the notes, the margins, the chains, and the slacks as a table and as paragraphs are compared, and how many notes standard
+error counts beside the report.
 """
 import multiprocessing
 import os
@@ -46,12 +47,20 @@ def words_of(mode, rounds):
 
 
 def answer_of(program, words, text):
-    """The program's own answer, whose outcome is left open where there is one."""
+    """The program's own answer, whose outcome is left open where there is one, and what standard error says."""
     try:
         ended = subprocess.run([program, *words], input=text.encode(), capture_output=True, timeout=MOST_SECONDS)
     except subprocess.TimeoutExpired:
-        return Answer(-1, "", f"no answer in {MOST_SECONDS} seconds")
-    return Answer(ended.returncode, ended.stdout.decode("latin-1"), "")
+        return Answer(-1, "", f"no answer in {MOST_SECONDS} seconds"), ""
+    return Answer(ended.returncode, ended.stdout.decode("latin-1"), ""), ended.stderr.decode("latin-1")
+
+
+def count_line(asked):
+    """What standard error says of the notes beside a verdict, by those that there should be."""
+    kinds = tuple(f"NOTE {kind} " for kind in ("PART", "NEAR", "EMPTY", "CASES"))
+    lines = [line for words, wanted in asked if words == ["notes"] for line in wanted.text.splitlines()]
+    count = sum(line.startswith(kinds) for line in lines)
+    return f"scald: {count} note{'s' if count > 1 else ''}: scald notes\n" if count else ""
 
 
 def keep(number, text, wanted, given):
@@ -96,11 +105,14 @@ def try_text(program, number, ask):
     """The line of one text."""
     text, asked = ask(number)
     for words, wanted in asked:
-        given = answer_of(program, words, text)
+        given, said = answer_of(program, words, text)
         if (given.status, given.text) != (wanted.status, wanted.text):
             why = "other bytes" if given.status == wanted.status else f"status {given.status} in place of {wanted.status}"
             why = given.outcome or why
             return f"{number} FAILED `{' '.join(words)}`: {why}; {keep(number, text, wanted, given)}"
+        counted = "".join(line for line in said.splitlines(True) if line.endswith(": scald notes\n"))
+        if words[0] == "verify" and wanted.status in (0, 1) and counted != count_line(asked):
+            return f"{number} FAILED `verify`: another count of notes; {keep(number, text, wanted, given)}"
     return f"{number} {asked[0][1].outcome}"
 
 

@@ -4,7 +4,7 @@ ghost use Rattle.std.specs.Prelude.{◌≤◌};
 
 use crate::rows::{expect, expect_eq};
 use scald_base::{Bytes, Calls, CountSink, MemorySink, MemorySource, SureSource};
-use scald_tool::{Outcome, Words, tool_main};
+use scald_tool::{Omissions, Outcome, Words, tool_main};
 use std::process::Abort;
 
 /// The first drawing, which has 106 bytes.
@@ -83,7 +83,13 @@ fn ends(
     sink: &mut MemorySink,
     want: End,
 ) {
-    let outcome = tool_main(rt.alloc(), &one_word(rt, b"verify"), source, sink, &mut 0);
+    let outcome = tool_main(
+        rt.alloc(),
+        &one_word(rt, b"verify"),
+        source,
+        sink,
+        &mut Omissions::unasked(),
+    );
     let came = (outcome, source.left().len(), sink.taken().len());
     expect_eq(rt, name, &came, &want);
     expect(rt, name, FIRST_REPORT.starts_with(sink.taken()));
@@ -159,7 +165,7 @@ fn devices_that_never_fail(rt: HostRuntime) {
         &one_word(&rt, b"verify"),
         &mut source,
         &mut sink,
-        &mut 0,
+        &mut Omissions::unasked(),
     );
     let came = (outcome, source.left().len(), sink.length());
     expect_eq(&rt, "no failure", &came, &(Outcome::Clean, 0, 157));

@@ -8,9 +8,9 @@ use scald_base::{Bytes, Words};
 use std::alloc::Global;
 
 /// The words that a form begins with.
-const COMMANDS: [&[u8]; 12] = [
+const COMMANDS: [&[u8]; 14] = [
     b"verify", b"notes", b"format", b"upgrade", b"slack", b"explain", b"margins", b"chains",
-    SECTIONS, b"run", b"judge", b"bench",
+    SECTIONS, b"run", b"vcd", b"judge", b"import", b"bench",
 ];
 
 const SECTIONS: &[u8] = b"sections";
@@ -33,10 +33,13 @@ const NUMBERED: [(&[u8], Bounds); 3] = [
     (b"case=", Bounds(b"K", 1, 256)),
 ];
 
+/// The front of the word for the length of a tick.
+const TICK: &[u8] = b"tick=";
+
 const SEEDS: Bounds = Bounds(b"SEED", 0, u64::MAX);
 
 /// What a form goes on with, by its command and how many words stand after that.
-const FORMS: [(&[u8], usize, Next); 11] = [
+const FORMS: [(&[u8], usize, Next); 16] = [
     (
         b"verify",
         0,
@@ -50,18 +53,28 @@ const FORMS: [(&[u8], usize, Next); 11] = [
     (b"run", 0, Next::Number(Bounds(b"T", 1, 4096))),
     (b"run", 1, Next::Number(SEEDS)),
     (b"run", 2, Next::Word(&[b"case=K"])),
+    (b"vcd", 0, Next::Number(Bounds(b"T", 1, 4096))),
+    (b"vcd", 1, Next::Number(SEEDS)),
+    (b"vcd", 2, Next::Word(&[b"case=K", b"tick=1ns"])),
+    (b"vcd", 3, Next::Word(&[b"tick=1ns"])),
     (b"judge", 0, Next::Number(Bounds(b"F", 0, 4096))),
+    (b"import", 0, Next::Word(&[b"cells"])),
     (b"bench", 0, Next::Number(Bounds(b"N", 1, 200))),
 ];
 
-/// Whether one of these words sets a limit of rounds.
-fn is_limited(words: &[Bytes]) -> bool {
+/// Whether one of these words has this front.
+fn has_front(words: &[Bytes], front: &[u8]) -> bool {
     for word in words {
-        if word.as_slice().starts_with(b"rounds=") {
+        if word.as_slice().starts_with(front) {
             return true;
         }
     }
     false
+}
+
+/// Whether one of these words is the last of its form.
+fn is_ended(words: &[Bytes]) -> bool {
+    has_front(words, b"rounds=") || has_front(words, TICK)
 }
 
 /// What the words go on with that begin a form.
@@ -70,7 +83,7 @@ fn next_of(words: &[Bytes]) -> Next {
         return Next::Word(&COMMANDS);
     };
     for (command, count, next) in &FORMS {
-        if first.as_slice() == *command && others.len() == *count && !is_limited(others) {
+        if first.as_slice() == *command && others.len() == *count && !is_ended(others) {
             return *next;
         }
     }
@@ -102,6 +115,9 @@ fn add_meant(out: &mut Lines, words: &[&'static [u8]], word: &[u8]) {
             if word.starts_with(front) {
                 return add_bounds(out, *bounds);
             }
+        }
+        if word.starts_with(TICK) {
+            return out.put(b": a tick is 1, 10 or 100 s, ms, us, ns, ps or fs, as in tick=10us");
         }
         return out.fill(b": is % meant?", &[Shown(meant)]);
     }
@@ -143,5 +159,5 @@ pub fn explain_words(alloc: Global, words: &Words, number: u32) -> Lines {
 
 /// Whether the words set a limit of rounds.
 pub fn sets_limit(words: &Words) -> bool {
-    is_limited(words.as_slice())
+    has_front(words.as_slice(), b"rounds=")
 }

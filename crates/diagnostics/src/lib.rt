@@ -33,5 +33,5 @@ pub use call::{explain_words, sets_limit};
 pub use explain::explain_refusal;
 pub use kept::KeptSource;
 pub use lines::{Lines, Part};
-pub use section::{add_section, explain_section, explain_undriven, newlines};
+pub use section::{add_section, explain_notes, explain_section, explain_undriven, newlines};
 pub use text::{Text, part, place_of_name, place_of_word, tokens_of};

@@ -1,4 +1,4 @@
-//! What is said of a section of a text, and of nets that nothing determines.
+//! What is said of a section of a text, and of what a drawing leaves out.
 
 use crate::lines::Lines;
 use crate::lines::Part::Number;
@@ -52,5 +52,17 @@ pub fn explain_undriven(alloc: Global, count: u32) -> Lines {
         }
     };
     out.fill(sentence, &[Number(u64::from(count))]);
+    out
+}
+
+/// How many notes there are, and which word lists them; nothing if there are none.
+pub fn explain_notes(alloc: Global, count: usize) -> Lines {
+    let mut out = Lines::new(alloc);
+    let sentence: &[u8] = match count {
+        0 => return out,
+        1 => b"scald: % note: scald notes\n",
+        _ => b"scald: % notes: scald notes\n",
+    };
+    out.fill(sentence, &[Number(count as u64)]);
     out
 }

@@ -10,7 +10,7 @@ use Rattle.drawing_notes.specs.Passing.{is_passable}
 use Rattle.drawing_notes.specs.Paths.{is_started, leads_in}
 use Rattle.drawing_notes.specs.Search.{IsFound, is_clocked_by}
 use Rattle.drawing_notes.specs.Doubts.{ArePassable, IsLaunched}
-use Rattle.drawing_notes.proofs.Written.{same_at}
+use Rattle.drawing_omissions.proofs.Written.{same_at}
 
 -- a search finds one set
 pub one_found : (step : ℕ → ℕ → Bool) (within start first second : ℕ → Bool) → IsFound step within start first → IsFound step within start second →

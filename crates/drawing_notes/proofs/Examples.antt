@@ -8,7 +8,8 @@ use Rattle.listing.specs.Head.{period_line}
 use Rattle.drawing_notes.specs.declared.reply.Kept.{Kept}
 use Rattle.drawing_notes.specs.Idle.{idle_line}
 use Rattle.drawing_notes.specs.Ways.{Ways}
-use Rattle.drawing_notes.proofs.ExamplesCircuit.{three, instance, on}
+use Rattle.drawing_omissions.proofs.ExamplesParts.{instance, on}
+use Rattle.drawing_notes.proofs.ExamplesCircuit.{three}
 use Rattle.drawing_notes.specs.Unclocked.{unclocked_line}
 use Rattle.drawing_notes.specs.Report.{count_line, note_lines, notes}
 use Rattle.flat_circuit.specs.declared.limits.Limits.TheVariants.{Edges}

@@ -2,7 +2,6 @@
 use Rattle.std.specs.Prelude.{◌≡◌, ℕ, ◌==◌, nat_lt, Bool, true, false, ◌&&◌, List, [], ◌∷◌, codes, if◌then◌else◌, Option, Some, None}
 use Rattle.std.specs.Fmt.{digits}
 use Rattle.std.proofs.Common.{refl}
-use Rattle.scald_base.specs.Time.{Header}
 use Rattle.scald_base.specs.declared.assertion.AssertSpec.{AssertSpec}
 use Rattle.scald_base.specs.declared.assertion.AssertSpec.TheVariants.{None as Unasserted, Stable}
 use Rattle.vector_names.specs.declared.bits.Target.TheVariants.{Net as OnNet, Constant}
@@ -15,6 +14,7 @@ use Rattle.flat_circuit.specs.declared.limits.Limits.{Limits}
 use Rattle.flat_circuit.specs.declared.net.Net.{Net}
 use Rattle.flat_circuit.specs.Circuit.{Circuit}
 use Rattle.flat_circuit.proofs.RunTables.{limits_of}
+use Rattle.drawing_omissions.proofs.ExamplesParts.{header, on, turned, high, instance}
 use Rattle.drawing_notes.specs.declared.launched.Arrival.{Arrival}
 use Rattle.drawing_notes.specs.Pins.{has_clock, target_text}
 use Rattle.drawing_notes.specs.Idle.{idle, idle_line}
@@ -25,48 +25,8 @@ use Rattle.drawing_notes.specs.Late.{late, late_line}
 
 -- ---- circuits over a period of eight ticks
 
-abbrev pub header : Header
-header = record { units = 8; ticks = 1; wire = record { min = 0; max = 0 }; pskew = (0, 0); cskew = (0, 0) }
-
 abbrev pub net : List ℕ → AssertSpec → ℕ → Option ℕ → Net
 net name spec wire driver = record { name = name; bit = 0; spec = spec; wire = record { min = 0; max = wire }; driver = driver }
-
-abbrev pub on : ℕ → Pin
-on i = record { target = OnNet i; inverted = false; hold = false }
-
-abbrev pub turned : ℕ → Pin
-turned i = record { target = OnNet i; inverted = true; hold = false }
-
-abbrev pub high : Pin
-high = record { target = Constant true; inverted = false; hold = false }
-
-abbrev pub instance : List ℕ → Kind → Limits → List Pin → Option ℕ → Instance
-instance path kind limits pins None =
-    record {
-      path = path;
-      bit = 0;
-      kind = kind;
-      delay = record { min = 1; max = 3 };
-      split = None;
-      limits = limits;
-      pins = pins;
-      out = None;
-      out_inverted = false;
-      place = record { line = 4; col = 1 };
-    }
-instance path kind limits pins (Some i) =
-    record {
-      path = path;
-      bit = 0;
-      kind = kind;
-      delay = record { min = 1; max = 3 };
-      split = None;
-      limits = limits;
-      pins = pins;
-      out = Some (OnNet i);
-      out_inverted = false;
-      place = record { line = 4; col = 1 };
-    }
 
 -- a buffer of this net, with a rise delay of 4 ticks at most, a fall delay of 5, and a complement at its output
 abbrev pub split_inverter : Pin → ℕ → Instance

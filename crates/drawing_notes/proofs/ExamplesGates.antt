@@ -18,7 +18,8 @@ use Rattle.drawing_notes.specs.Passing.{is_heard, is_shut, makes}
 use Rattle.drawing_notes.specs.Search.{Over, At_start, By_step}
 use Rattle.drawing_notes.specs.Unmarked.{TellsClocks, TellsTimed, asserts_clock, is_clock, is_gated, is_timing, unmarked, unmarked_line}
 use Rattle.drawing_notes.specs.Paths.{leads}
-use Rattle.drawing_notes.proofs.ExamplesCircuit.{three, header, net, instance, high, on, turned}
+use Rattle.drawing_omissions.proofs.ExamplesParts.{header, high, instance, on, turned}
+use Rattle.drawing_notes.proofs.ExamplesCircuit.{three, net}
 
 -- ---- waves: net 0 is a clock, net 1 what its case says, and all others are high
 

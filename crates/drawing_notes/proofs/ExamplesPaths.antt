@@ -14,7 +14,8 @@ use Rattle.timing_analysis.specs.Case.{Case}
 use Rattle.drawing_notes.specs.Passing.{is_passable}
 use Rattle.drawing_notes.specs.Paths.{leads, Leads, AreLatest, AreTogether, Comes, IsLatest, Launches, Stored, Passed, TellsArrivals, TellsLaunches, TellsLoops, delay_of, is_started, leads_in, makes_of}
 use Rattle.drawing_notes.specs.Search.{Over, At_start, By_step}
-use Rattle.drawing_notes.proofs.ExamplesCircuit.{three, instance, on, split_inverter}
+use Rattle.drawing_omissions.proofs.ExamplesParts.{instance, on}
+use Rattle.drawing_notes.proofs.ExamplesCircuit.{three, split_inverter}
 
 -- ---- two buffers from A to B and back, and one from B to C
 

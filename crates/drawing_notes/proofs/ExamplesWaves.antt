@@ -22,13 +22,13 @@ use Rattle.flat_circuit.proofs.RunTables.{limits_of}
 use Rattle.fixpoint_engine.specs.Settled.{marked_in}
 use Rattle.fixpoint_engine.specs.Waves.{Waves}
 use Rattle.timing_analysis.specs.Case.{Case}
-use Rattle.drawing_notes.specs.Lines.{Lines, Adds}
-use Rattle.drawing_notes.specs.declared.spread.Finding.{Finding}
-use Rattle.drawing_notes.specs.declared.spread.Finding.TheVariants.{Spread as ASpread, Loop}
+use Rattle.drawing_omissions.specs.Lines.{Lines, Adds}
+use Rattle.drawing_omissions.specs.declared.spread.Finding.{Finding}
+use Rattle.drawing_omissions.specs.declared.spread.Finding.TheVariants.{Spread as ASpread, Loop}
 use Rattle.drawing_notes.specs.declared.cases.SoFar.{SoFar}
 use Rattle.drawing_notes.specs.Common.{common, common_line, common_ticks}
 use Rattle.drawing_notes.specs.SoFar.{HoldsOf}
-use Rattle.drawing_notes.specs.Spread.{spread, spread_line}
+use Rattle.drawing_omissions.specs.Spread.{spread, spread_line}
 use Rattle.drawing_notes.specs.Unclocked.{AreActs, is_active, unclocked, unclocked_line}
 use Rattle.drawing_notes.specs.Unknown.{unknown, unknown_line}
 

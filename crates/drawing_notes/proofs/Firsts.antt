@@ -15,7 +15,7 @@ use Rattle.timing_analysis.specs.Case.{Case}
 use Rattle.drawing_notes.specs.Passing.{changes_on}
 use Rattle.drawing_notes.specs.Unmarked.{AreFirst, changes_beside, changes_in_some, clock_changes, earlier, first_at, first_beside, first_in, first_of, is_bare, target_in}
 use Rattle.drawing_notes.proofs.Stepped.{SteppedTo}
-use Rattle.drawing_notes.proofs.Written.{same_at}
+use Rattle.drawing_omissions.proofs.Written.{same_at}
 
 -- ---- the first place that passes
 

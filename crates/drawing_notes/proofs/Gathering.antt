@@ -9,9 +9,9 @@ use Rattle.flat_circuit.specs.Circuit.{Circuit}
 use Rattle.fixpoint_engine.specs.Settled.{marked_in}
 use Rattle.fixpoint_engine.specs.Waves.{Waves, waves_of}
 use Rattle.timing_analysis.specs.Case.{Case}
-use Rattle.drawing_notes.specs.Lines.{Lines, Adds}
-use Rattle.drawing_notes.proofs.Adding.{adds_both, adds_none}
-use Rattle.drawing_notes.proofs.Written.{same_at}
+use Rattle.drawing_omissions.specs.Lines.{Lines, Adds}
+use Rattle.drawing_omissions.proofs.Adding.{adds_both, adds_none}
+use Rattle.drawing_omissions.proofs.Written.{same_at}
 use Rattle.drawing_notes.specs.declared.cases.SoFar.{SoFar}
 use Rattle.drawing_notes.specs.declared.case_gates.CaseGates.{CaseGates}
 use Rattle.drawing_notes.specs.declared.case_paths.CasePaths.{CasePaths}

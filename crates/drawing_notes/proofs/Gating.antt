@@ -13,9 +13,9 @@ use Rattle.fixpoint_engine.specs.Settled.{marked_in}
 use Rattle.fixpoint_engine.specs.Worklist.{Adds, Queue}
 use Rattle.drawing_notes.specs.Search.{IsFound}
 use Rattle.drawing_notes.specs.Unmarked.{is_asserted_clock, is_clock, is_gated, is_timing, times_at, times_by}
-use Rattle.drawing_notes.proofs.Anys.{any_more}
+use Rattle.drawing_omissions.proofs.Anys.{any_more}
 use Rattle.drawing_notes.proofs.ByClock.{found_by}
-use Rattle.drawing_notes.proofs.Written.{same_at}
+use Rattle.drawing_omissions.proofs.Written.{same_at}
 
 -- ---- clocks below a number
 

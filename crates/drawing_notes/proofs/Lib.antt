@@ -1,14 +1,5 @@
-mod ExamplesSpread
-pub mod Walking
-pub mod SpreadSizes
-pub mod Turning
-pub mod Using
-pub mod Bodies
-pub mod Over
-pub mod Whole
 mod ExamplesWaves
 mod ExamplesGates
-mod ExamplesNames
 pub mod Stepped
 pub mod Scanning
 pub mod Acting
@@ -17,10 +8,7 @@ pub mod Raising
 pub mod Clocking
 pub mod Doubting
 pub mod ByClock
-pub mod Naming
 pub mod Gathering
-pub mod Adding
-pub mod Anys
 pub mod Arriving
 pub mod Closing
 pub mod Deciding
@@ -43,7 +31,6 @@ pub mod Parting
 pub mod Placing
 pub mod Ranging
 pub mod Reaching
-pub mod Reading
 pub mod Seeing
 pub mod Settling
 pub mod Shutting
@@ -51,16 +38,7 @@ pub mod Sizes
 pub mod Small
 pub mod Stepping
 pub mod Telling
-pub mod Written
 pub mod Examples
 pub mod Promised
 pub mod Reporting
 pub mod Drawing
-pub mod Loosing
-pub mod Driving
-pub mod Nearing
-pub mod Listing
-pub mod Valuing
-pub mod Noting
-pub mod Doubled
-pub mod Spotting

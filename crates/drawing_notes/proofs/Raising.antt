@@ -22,7 +22,7 @@ use Rattle.drawing_notes.specs.Paths.{AreLatest, Comes, Launches, TellsArrivals}
 use Rattle.drawing_notes.proofs.Latest.{latest_of_two}
 use Rattle.drawing_notes.proofs.Small.{later_small}
 use Rattle.drawing_notes.proofs.Stepped.{SteppedTo}
-use Rattle.drawing_notes.proofs.Written.{same_at}
+use Rattle.drawing_omissions.proofs.Written.{same_at}
 
 greatest_push : (ns : List ℕ) (n : ℕ) → greatest (ns ++ n ∷ []) ≡ max (greatest ns) n
 greatest_push [] n = omega arith

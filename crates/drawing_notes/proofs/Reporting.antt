@@ -15,7 +15,7 @@ use Rattle.drawing_notes.specs.Common.{common, common_of, common_ticks, skew_at}
 use Rattle.drawing_notes.specs.Drawn.{drawn_notes}
 use Rattle.drawing_notes.specs.Idle.{idle}
 use Rattle.drawing_notes.specs.Late.{late}
-use Rattle.drawing_notes.specs.Lines.{Lines, Adds}
+use Rattle.drawing_omissions.specs.Lines.{Lines, Adds}
 use Rattle.drawing_notes.specs.Loops.{loops}
 use Rattle.drawing_notes.specs.Parts.{together}
 use Rattle.drawing_notes.specs.Report.{AreNotes, count_line, notes, path_notes, single_notes}
@@ -26,7 +26,7 @@ use Rattle.drawing_notes.specs.Unknown.{unknown}
 use Rattle.drawing_notes.specs.Unmarked.{first_at, first_of, unmarked, unmarked_by}
 use Rattle.drawing_notes.specs.Unread.{unread}
 use Rattle.drawing_notes.specs.Ways.{AreWays, Ways}
-use Rattle.drawing_notes.proofs.Adding.{adds_both}
+use Rattle.drawing_omissions.proofs.Adding.{adds_both}
 use Rattle.drawing_notes.proofs.Deciding.{launched_in, launched_tells}
 use Rattle.drawing_notes.proofs.Numbers.{same_lines}
 

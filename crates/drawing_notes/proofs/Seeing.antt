@@ -14,7 +14,7 @@ use Rattle.flat_circuit.specs.Circuit.{Circuit}
 use Rattle.drawing_notes.specs.declared.unchecked.Sampling.{Sampling}
 use Rattle.drawing_notes.specs.Pins.{is_latch}
 use Rattle.drawing_notes.specs.Unchecked.{AreSeen, is_among, is_checked, is_it, is_same, is_watched, sampling_of, seen_by, sees}
-use Rattle.drawing_notes.proofs.Anys.{any_more, kept_same}
+use Rattle.drawing_omissions.proofs.Anys.{any_more, kept_same}
 
 sees_by : (s : Sampling) (j : Instance) (b : Bool) → checks_points j.kind ≡ b → sees s j ≡ is_it s (cond b (sampling_of j) None)
 sees_by s j true is = ap (λ b. b && is_it s (sampling_of j)) is

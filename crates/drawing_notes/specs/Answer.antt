@@ -7,12 +7,12 @@ use Rattle.program_call.specs.declared.words.Request.{Request}
 use Rattle.program_call.specs.Answer.{Evaluated, Reporting}
 use Rattle.program_call.specs.Wordless.{reporting_program}
 use Rattle.drawing_notes.specs.declared.reply.Kept.{Kept}
-use Rattle.drawing_notes.specs.Spreads.{spreads}
-use Rattle.drawing_notes.specs.Fors.{fors}
-use Rattle.drawing_notes.specs.CaseBits.{case_bits}
+use Rattle.drawing_omissions.specs.Spreads.{spreads}
+use Rattle.drawing_omissions.specs.Fors.{fors}
+use Rattle.drawing_omissions.specs.CaseBits.{case_bits}
 use Rattle.drawing_notes.specs.Report.{AreNotes}
 
--- what the notes keep of a drawing: its version, what is found where it is expanded, its FORs and
+-- what the notes keep of a drawing: its version, what is found while it is expanded, its FORs and
 -- its cases
 abbrev pub kept_of : Drawing → Kept
 kept_of d =

@@ -148,7 +148,7 @@ AreUpTo most arrivals = (net : ℕ) → IsUpTo most (arrival_at arrivals net)
 
 -- ---- the order in which they are made
 
--- the net, where it is on no loop
+-- the net, if it is on no loop
 abbrev pub unlooped : (ℕ → Bool) → Option ℕ → Option ℕ
 unlooped looped None = None
 unlooped looped (Some net) = if looped net then None else Some net

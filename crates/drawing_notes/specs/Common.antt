@@ -33,7 +33,7 @@ abbrev pub skew_of : (ℕ → ℕ) → Option Doubt → ℕ
 skew_of skew None = 0
 skew_of skew (Some d) = skew d.clock
 
--- the same, where it launches what comes at the input
+-- the same, if it launches what comes at the input
 abbrev pub ticks_of : (ℕ → ℕ) → (ℕ → ℕ → Bool) → Option Doubt → ℕ
 ticks_of skew launched None = 0
 ticks_of skew launched (Some d) = if launched d.clock d.input then skew d.clock else 0

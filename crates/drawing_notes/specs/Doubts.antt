@@ -15,7 +15,7 @@ use Rattle.drawing_notes.specs.declared.doubts.Doubt.{Doubt}
 
 -- ---- checkers
 
--- a clock and an input that are both on nets, where the wave of the clock has a skew
+-- a clock and an input that are both on nets, if the wave of the clock has a skew
 abbrev pub doubt_on : (ℕ → ℕ) → ℕ → Option ℕ → Option ℕ → Option Doubt
 doubt_on skew k (Some clock) (Some input) =
     if nat_lt 0 (skew clock)

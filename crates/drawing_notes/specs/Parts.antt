@@ -5,7 +5,7 @@ use Rattle.flat_circuit.specs.Circuit.{Circuit}
 use Rattle.fixpoint_engine.specs.Settled.{marked_in}
 use Rattle.drawing_notes.specs.Paths.{AreTogether}
 
--- a net of the loop of a net, the same for all of its nets; none where the net is on no loop
+-- a net of the loop of a net, the same for all of its nets; none if the net is on no loop
 abbrev pub part_at : List (Option ℕ) → ℕ → Option ℕ
 part_at parts i = slice_index_or parts i None
 

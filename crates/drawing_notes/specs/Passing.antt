@@ -141,7 +141,7 @@ keeps_direction SetupHold = false
 keeps_direction RiseFall = false
 keeps_direction MinPulse = false
 
--- The pin at a place makes of a rise or a fall of its net this change of the output's net: an XOR, a
+-- The pin at a place makes of a rise or fall of its net this change of the output's net: an XOR, a
 -- select and a change function make both of each.
 abbrev pub makes : Instance → ℕ → Pin → Bool → Bool → Bool
 makes j place p before rise =

@@ -12,7 +12,7 @@ use Rattle.drawing_notes.specs.declared.launched.Arrival.{Arrival}
 use Rattle.drawing_notes.specs.Passing.{delay_to, is_open, is_passable, makes, opens_on}
 use Rattle.drawing_notes.specs.Pins.{is_storage, passes}
 use Rattle.drawing_notes.specs.Search.{IsFound, is_clocked_by}
-use Rattle.drawing_notes.specs.Unread.{has_pin_on}
+use Rattle.drawing_omissions.specs.Read.{has_pin_on}
 
 -- ---- steps
 
@@ -30,13 +30,13 @@ Leads c from net = leads c from net ≡ true
 
 -- ---- loops
 
--- Each of the two nets is reached from the other; a net and itself, where it is reached from
+-- Each of the two nets is reached from the other; a net and itself, if it is reached from
 -- itself.
 pub record AreTogether (c : Circuit) (i j : ℕ) : Type 0 where
   pub there : Reaches (Leads c) i j
   pub back : Reaches (Leads c) j i
 
--- two nets are on one loop exactly where this says so
+-- two nets are on one loop exactly if this says so
 abbrev pub TellsLoops : Circuit → (ℕ → ℕ → Bool) → Type 0
 TellsLoops c together = (i j : ℕ) → (together i j ≡ true) ↔ AreTogether c i j
 
@@ -94,7 +94,7 @@ pub record IsLatest (Comes : ℕ → ℕ → Type 0) (a : Arrival) : Type 0 wher
   pub latest : (storage ticks : ℕ) → Comes storage ticks →
       (ticks < a.ticks) ⊎ ((ticks ≡ a.ticks) × (a.storage ≤ storage))
 
--- the latest, where there are any
+-- the latest, if there are any
 abbrev pub AreLatest : (ℕ → ℕ → Type 0) → Option Arrival → Type 0
 AreLatest Comes None = (storage ticks : ℕ) → ¬ Comes storage ticks
 AreLatest Comes (Some a) = IsLatest Comes a

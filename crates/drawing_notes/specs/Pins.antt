@@ -41,7 +41,7 @@ clock_of j = slice_get j.pins 0
 abbrev pub input_of : Instance → Option Pin
 input_of j = slice_get j.pins 1
 
--- the net that a pin is on, where it is on one
+-- the net that a pin is on, if it is on one
 abbrev pub target_net : Target → Option ℕ
 target_net (OnNet i) = Some i
 target_net (Constant one) = None

@@ -10,7 +10,7 @@ use Rattle.scald_base.specs.declared.outcome.Outcome.{Outcome}
 use Rattle.program_call.specs.Answer.{verdict_of}
 use Rattle.drawing_notes.specs.Ways.{Ways, AreWays}
 use Rattle.drawing_notes.specs.SoFar.{HoldsOf}
-use Rattle.drawing_notes.specs.Lines.{Lines, Adds}
+use Rattle.drawing_omissions.specs.Lines.{Lines, Adds}
 use Rattle.drawing_notes.specs.declared.cases.SoFar.{SoFar}
 use Rattle.drawing_notes.specs.Idle.{idle}
 use Rattle.drawing_notes.specs.Unchecked.{unchecked}

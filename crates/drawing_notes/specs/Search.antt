@@ -20,12 +20,12 @@ pub data Over (step : ℕ → ℕ → Bool) (within start : ℕ → Bool) : ℕ 
 abbrev pub IsFound : (ℕ → ℕ → Bool) → (ℕ → Bool) → (ℕ → Bool) → (ℕ → Bool) → Type 0
 IsFound step within start found = (i : ℕ) → (found i ≡ true) ↔ Over step within start i
 
--- what an instance drives, where it is a gate or a change function
+-- what an instance drives, if it is a gate or a change function
 abbrev pub passes_to : Option Instance → ℕ → Bool
 passes_to None i = false
 passes_to (Some j) i = passes j.kind && drives_in j.out i
 
--- what an instance drives, where it has an open pin on a net
+-- what an instance drives, if it has an open pin on a net
 abbrev pub opens_to : Circuit → Waves → ℕ → Option Instance → ℕ → Bool
 opens_to c ws net None i = false
 opens_to c ws net (Some j) i = opens_on c ws net (Some j) && drives_in j.out i

@@ -1,4 +1,4 @@
--- What the cases so far tell: exactly what the notes ask of them.
+-- What the cases so far show: exactly what the notes ask of them.
 use Rattle.std.specs.Prelude.{◌≡◌, ℕ, ◌*◌, ◌+◌, ◌<◌, Bool, true, false, List, [], length}
 use Rattle.flat_circuit.specs.Circuit.{Circuit}
 use Rattle.flat_circuit.specs.Node.{Feeds}
@@ -11,7 +11,7 @@ use Rattle.drawing_notes.specs.declared.case_gates.CaseGates.{CaseGates}
 use Rattle.drawing_notes.specs.declared.case_paths.CasePaths.{CasePaths}
 use Rattle.drawing_notes.specs.Arrivals.{AreUpTo, arrival_at}
 use Rattle.drawing_notes.specs.Common.{common_ticks, skew_at}
-use Rattle.drawing_notes.specs.Lines.{Adds}
+use Rattle.drawing_omissions.specs.Lines.{Adds}
 use Rattle.drawing_notes.specs.Parts.{AreInside, together}
 use Rattle.drawing_notes.specs.Paths.{TellsArrivals, TellsLaunches, TellsLoops, is_looped, leads}
 use Rattle.drawing_notes.specs.Unclocked.{AreActs}

@@ -22,7 +22,7 @@ is_across (Some AboutRise) = false
 is_across (Some RiseToFall) = true
 is_across (Some Widths) = false
 
--- a clock, complemented or not as the pin is, and an input, where both are on nets
+-- a clock, complemented or not as the pin is, and an input, if both are on nets
 abbrev pub sampling_by : Bool → Option ℕ → Bool → Option ℕ → Option Sampling
 sampling_by across (Some clock) inverted (Some input) =
     Some (record { clock = clock; inverted = inverted; input = input; across = across })

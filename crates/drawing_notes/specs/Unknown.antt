@@ -35,7 +35,7 @@ abbrev pub first_or : Option ℕ → ℕ → Option ℕ
 first_or None net = Some net
 first_or (Some first) net = Some first
 
--- with a net more, where it counts
+-- with a net more, if it counts
 abbrev pub and_net : Counted → ℕ → Bool → Counted
 and_net counted net counts =
     if counts

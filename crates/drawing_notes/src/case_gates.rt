@@ -19,7 +19,7 @@ use std::alloc::Global;
 use step_values::Value;
 use wave_core::CyclicWave;
 
-/// What clocks reach, and what the cases so far tell of the gates that let them through.
+/// What clocks reach, and what the cases so far show of the gates that let them through.
 #[derive(Drop)]
 pub struct CaseGates {
     /// The nets that clocks reach through gates alone.
@@ -129,7 +129,7 @@ fn first_other<W: CyclicWave<Item = Value>>(
     None
 }
 
-/// The first pin of an instance that may change beside a clock in a case, where the instance lets
+/// The first pin of an instance that may change beside a clock in a case, if the instance lets
 /// the clock through without a mark.
 fn first_pin<W: CyclicWave<Item = Value>>(
     waves: &Waves<W>,
@@ -215,7 +215,7 @@ fn no_firsts(alloc: Global, instances: u32) -> Result<Vec<Option<usize>>, NoMemo
 }
 
 impl CaseGates {
-    /// Before any case. `NoMemory` comes where memory runs out.
+    /// Before any case. `NoMemory` comes if memory runs out.
     pub fn begin(alloc: Global, c: &Circuit) -> Result<CaseGates, NoMemory>
         ensures { IfOk result (λ gates. HoldGates c.now [] gates) }
     {

@@ -19,7 +19,7 @@ use std::alloc::Global;
 use step_values::Value;
 use wave_core::CyclicWave;
 
-/// The loops of a circuit, and what the cases so far tell of paths past them.
+/// The loops of a circuit, and what the cases so far show of paths past them.
 #[derive(Drop)]
 pub struct CasePaths {
     /// By the numbers of nets, the loop that each is on.
@@ -59,7 +59,7 @@ fn raise_latest<W: CyclicWave<Item = Value>>(
 }
 
 impl CasePaths {
-    /// Before any case. `NoMemory` comes where memory runs out.
+    /// Before any case. `NoMemory` comes if memory runs out.
     pub fn begin(alloc: Global, c: &Circuit) -> Result<CasePaths, NoMemory>
         ensures { IfOk result (λ paths. HoldPaths c.now [] paths) }
     {
@@ -73,7 +73,7 @@ impl CasePaths {
         })
     }
 
-    /// One case more, by its waves. `NoMemory` comes where memory runs out.
+    /// One case more, by its waves. `NoMemory` comes if memory runs out.
     pub fn add_case<W: CyclicWave<Item = Value>>(
         &mut self,
         alloc: Global,

@@ -1,15 +1,15 @@
-//! What the cases so far tell.
+//! What the cases so far show.
 
 ghost use Rattle.std.specs.Prelude.{◌≡◌, ◌++◌, ◌∷◌, [], List, IfOk, OnOk};
 ghost use Rattle.fixpoint_engine.specs.Waves.{FitWaves, waves_of};
 ghost use Rattle.timing_analysis.specs.Case.{Case};
 ghost use Rattle.drawing_notes.specs.SoFar.{HoldsOf};
 
-use crate::Notes;
 use crate::case_gates::CaseGates;
 use crate::case_paths::CasePaths;
 use crate::unclocked::add_acts;
 use crate::unknown::add_unknown;
+use drawing_omissions::Notes;
 use fixpoint_engine::Waves;
 use flat_circuit::Circuit;
 use scald_base::{Bytes, NoMemory};
@@ -17,7 +17,7 @@ use std::alloc::Global;
 use step_values::Value;
 use wave_core::CyclicWave;
 
-/// What the cases so far tell.
+/// What the cases so far show.
 #[derive(Drop)]
 pub struct SoFar {
     /// By the numbers of instances, whose clock or enable does something in some case.
@@ -31,7 +31,7 @@ pub struct SoFar {
 }
 
 impl SoFar {
-    /// Before any case. `NoMemory` comes where memory runs out.
+    /// Before any case. `NoMemory` comes if memory runs out.
     pub fn begin(alloc: Global, c: &Circuit) -> Result<SoFar, NoMemory>
         ensures { IfOk result (λ so_far. HoldsOf so_far c.now []) }
     {
@@ -45,7 +45,7 @@ impl SoFar {
         })
     }
 
-    /// One case more, by its number and its waves. `NoMemory` comes where memory runs out.
+    /// One case more, by its number and its waves. `NoMemory` comes if memory runs out.
     pub fn add_case<W: CyclicWave<Item = Value>>(
         &mut self,
         alloc: Global,

@@ -48,7 +48,7 @@ fn is_clock(c: &Circuit, net: u32) -> bool
     }
 }
 
-/// Appends a net, where it is a clock.
+/// Appends a net, if it is a clock.
 fn add_clock(found: &mut Found, c: &Circuit, net: u32) -> Result<(), NoMemory>
     requires each_net { length found.old.marks ≡ length c.now.nets }
     requires exists { net < length c.now.nets }
@@ -82,7 +82,7 @@ pub(crate) fn clocks(alloc: Global, c: &Circuit, gated: &NetSet) -> Result<NetSe
     Ok(found.into_set())
 }
 
-/// Appends the net of the first pin of an instance, where a gate drives the net and the instance is
+/// Appends the net of the first pin of an instance, if a gate drives the net and the instance is
 /// storage or a checker.
 fn add_timing_at(
     found: &mut Found,

@@ -8,14 +8,15 @@ ghost use Rattle.case_analysis.specs.Found.{Extends};
 ghost use Rattle.drawing_notes.specs.Paths.{TellsLaunches};
 ghost use Rattle.drawing_notes.specs.Search.{is_clocked_by as spec_clocked};
 ghost use Rattle.drawing_notes.specs.Seen.{IsSeen, Sees};
-ghost use Rattle.drawing_notes.specs.Lines.{Adds};
+ghost use Rattle.drawing_omissions.specs.Lines.{Adds};
 ghost use Rattle.drawing_notes.specs.Common.{AreRaisedTicks, common, common_of, skew_at as spec_skew_at, skew_in, ticks_by};
 ghost use Rattle.drawing_notes.specs.Doubts.{AreCommon, IsLaunched, WasFound, launches_to};
 
 use crate::doubts::{doubt_about, doubts};
 use crate::passing::View;
 use crate::skews::{add_skews, skew_at};
-use crate::{CLOCK, Found, Notes, is_storage, pin_net};
+use crate::{CLOCK, Found, is_storage, pin_net};
+use drawing_omissions::Notes;
 use fixpoint_engine::{NetSet, Waves, output_of, readers_of};
 use flat_circuit::{Circuit, Instance};
 use listing::{Piece, instance_piece, net_piece};
@@ -37,7 +38,7 @@ fn is_clocked_by(instance: &Instance, clock: u32) -> bool
     }
 }
 
-/// Appends what an instance drives, where it is storage whose clock or enable is on a net, and what
+/// Appends what an instance drives, if it is storage whose clock or enable is on a net, and what
 /// it drives is within the set.
 fn add_driven(
     found: &mut Found,
@@ -98,8 +99,8 @@ fn search<W: CyclicWave<Item = Value>>(
     Ok(())
 }
 
-/// The same, where what was found before is what the last search was for, if there was one: nothing
-/// is done where that was for the same clock.
+/// The same, if what was found before is what the last search was for, if there was one: nothing
+/// is done if that was for the same clock.
 fn find_launched<W: CyclicWave<Item = Value>>(
     found: &mut Found,
     view: &View<W>,
@@ -122,7 +123,7 @@ fn find_launched<W: CyclicWave<Item = Value>>(
     }
 }
 
-/// Which instances are checkers whose input is launched by their own clock, where that may be late
+/// Which instances are checkers whose input is launched by their own clock, if that may be late
 /// as a whole in the case, by their numbers. It costs what each such clock reaches.
 fn common_checkers<W: CyclicWave<Item = Value>>(
     alloc: Global,
@@ -153,7 +154,7 @@ fn common_checkers<W: CyclicWave<Item = Value>>(
     Ok(common)
 }
 
-/// The skew of the clock of a checker, where it launches the checker's input.
+/// The skew of the clock of a checker, if it launches the checker's input.
 fn ticks_of(c: &Circuit, skews: &[u16], number: u32, is_common: bool) -> u16
     ensures { result ≡ ticks_by c.now (spec_skew_at skews.now) number is_common }
 {
@@ -205,7 +206,7 @@ pub(crate) fn raise_ticks<W: CyclicWave<Item = Value>>(
     Ok(())
 }
 
-/// The note on a checker, where its clock launches its input, so many ticks late as a whole.
+/// The note on a checker, if its clock launches its input, so many ticks late as a whole.
 #[tactic(auto, unfolding(crate::specs::Common::common_line))]
 fn add_common_at(notes: &mut Notes, c: &Circuit, number: u32, ticks: u16) -> Result<(), NoMemory>
     ensures { OnOk result (Adds notes.old notes.new
@@ -231,8 +232,8 @@ fn add_common_at(notes: &mut Notes, c: &Circuit, number: u32, ticks: u16) -> Res
 }
 
 /// Appends the notes on checkers to whose input a path leads from storage on their own clock net,
-/// where that net's wave may be late as a whole, in the order of expansion, by these ticks of each
-/// instance. `NoMemory` comes where memory runs out.
+/// if that net's wave may be late as a whole, in the order of expansion, by these ticks of each
+/// instance. `NoMemory` comes if memory runs out.
 pub fn add_common(notes: &mut Notes, c: &Circuit, ticks: &[u16]) -> Result<(), NoMemory>
     requires { length ticks.now ≡ length c.now.instances }
     ensures { OnOk result (Adds notes.old notes.new (common c.now (spec_skew_at ticks.now))) }

@@ -21,7 +21,7 @@ pub struct Doubt {
     pub input: u32,
 }
 
-/// An instance, where it is such a checker.
+/// An instance, if it is such a checker.
 pub(crate) fn doubt_about(c: &Circuit, skews: &[u16], number: u32) -> Option<Doubt>
     ensures { result ≡ doubt_at c.now (spec_skew_at skews.now) number }
 {
@@ -41,7 +41,7 @@ pub(crate) fn doubt_about(c: &Circuit, skews: &[u16], number: u32) -> Option<Dou
     })
 }
 
-/// Appends an instance, where it is such a checker.
+/// Appends an instance, if it is such a checker.
 fn add_doubt(
     doubts: &mut Vec<Doubt>,
     c: &Circuit,

@@ -97,7 +97,7 @@ impl Found {
         }
     }
 
-    /// Appends what an instance drives, where it passes on what its pins do and the net is within
+    /// Appends what an instance drives, if it passes on what its pins do and the net is within
     /// the set.
     fn add_output(&mut self, c: &Circuit, within: &NetSet, number: u32) -> Result<(), NoMemory>
         requires { length self.old.marks ≡ length c.now.nets }
@@ -177,7 +177,7 @@ impl Found {
         Ok(())
     }
 
-    /// Appends what an instance drives, where it has an open pin on a net, and what it drives passes
+    /// Appends what an instance drives, if it has an open pin on a net, and what it drives passes
     /// something on.
     fn add_open_output<W: CyclicWave<Item = Value>>(
         &mut self,
@@ -227,7 +227,7 @@ impl Found {
         Ok(())
     }
 
-    /// Appends all nets to which the found ones lead in a case, over nets that pass something on and
+    /// Appends all nets that the found ones lead to in a case, over nets that pass something on and
     /// open pins. It costs what the readers of these nets cost.
     pub(crate) fn follow_open<W: CyclicWave<Item = Value>>(
         &mut self,

@@ -2,9 +2,9 @@
 
 ghost use Rattle.std.specs.Prelude.{◌≡◌, slice_get, OnOk};
 ghost use Rattle.drawing_notes.specs.Idle.{asks_nothing, idle, idle_at, is_idle};
-ghost use Rattle.drawing_notes.specs.Lines.{Adds};
+ghost use Rattle.drawing_omissions.specs.Lines.{Adds};
 
-use crate::notes::Notes;
+use drawing_omissions::Notes;
 use element_kinds::Check;
 use flat_circuit::{Circuit, Limits};
 use listing::{Piece, instance_piece};
@@ -32,7 +32,7 @@ fn is_idle(c: &Circuit, number: u32) -> bool
     }
 }
 
-/// The note on an instance, where it is such a checker.
+/// The note on an instance, if it is such a checker.
 #[tactic(auto, unfolding(crate::specs::Idle::idle_line))]
 fn add_idle_at(notes: &mut Notes, c: &Circuit, number: u32) -> Result<(), NoMemory>
     ensures { OnOk result (Adds notes.old notes.new (idle_at c.now number)) }

@@ -3,16 +3,16 @@
 ghost use Rattle.std.specs.Prelude.{◌≡◌, ◌*◌, ◌^◌, OnOk};
 ghost use Rattle.drawing_notes.specs.Arrivals.{AreUpTo, arrival_at};
 ghost use Rattle.drawing_notes.specs.Late.{late, late_at, late_on};
-ghost use Rattle.drawing_notes.specs.Lines.{Adds};
+ghost use Rattle.drawing_omissions.specs.Lines.{Adds};
 
 use crate::launched::{Arrival, arrival_at, behind_wire};
-use crate::notes::Notes;
 use crate::pins::{passes, pin_net};
+use drawing_omissions::Notes;
 use flat_circuit::Circuit;
 use listing::{Piece, instance_piece, net_piece};
 use scald_base::NoMemory;
 
-/// The note on a pin, where what comes there takes longer than a period.
+/// The note on a pin, if what comes there takes longer than a period.
 #[tactic(auto, unfolding(crate::specs::Late::late_line))]
 fn add_late_on(
     notes: &mut Notes,
@@ -50,7 +50,7 @@ fn add_late_on(
     Ok(())
 }
 
-/// The notes on the pins of an instance, where it is storage or a checker.
+/// The notes on the pins of an instance, if it is storage or a checker.
 fn add_late_at(
     notes: &mut Notes,
     c: &Circuit,

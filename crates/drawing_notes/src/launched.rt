@@ -31,7 +31,7 @@ pub struct Arrival {
     pub storage: u32,
 }
 
-/// When what storage launches makes a net rise, and when fall; `None` where it does not.
+/// When what storage launches makes a net rise, and when fall; `None` if it does not.
 #[derive(Clone, Copy)]
 pub struct Edges {
     pub rise: Option<Arrival>,
@@ -127,7 +127,7 @@ fn edge_on(c: &Circuit, edges: &[Edges], before: bool, target: Target) -> Option
     }
 }
 
-/// The same, where the pin at a place makes this change of the output's net of it.
+/// The same, if the pin at a place makes this change of the output's net of it.
 fn edge_through(
     c: &Circuit,
     edges: &[Edges],
@@ -343,7 +343,7 @@ fn without_edges(alloc: Global, nets: u32) -> Result<Vec<Edges>, NoMemory>
     Ok(edges)
 }
 
-/// When what storage launches makes each net rise and fall at the latest, net by net in their order.
+/// When what storage launches makes each net rise and fall at the latest, net by net in order.
 /// Each pin is looked at twice.
 pub(crate) fn all_edges<W: CyclicWave<Item = Value>>(
     alloc: Global,

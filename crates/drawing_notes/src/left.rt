@@ -75,7 +75,7 @@ fn visit(
     Ok(())
 }
 
-/// Nets in the order in which a search back from each of them leaves them: where no loop is in the
+/// Nets in the order in which a search back from each of them leaves them: if no loop is in the
 /// way, a net comes after all that leads to it. No contract says which nets are there, since
 /// nothing but the cost of the search for loops rests on it.
 pub fn left(alloc: Global, c: &Circuit) -> Result<Vec<u32>, NoMemory> {

@@ -4,21 +4,19 @@
 //! The program calls [`notes_main`], the main call of `program_call` for [`NotesProgram`].
 //! `specs/Report` says which notes there are and in which order, and `specs/Answer` what is
 //! answered to a text. Each kind of note has a file of `specs/` that says which notes of it there
-//! are, in the words of its line, and a call that appends exactly its lines to [`Notes`] and counts
-//! them.
+//! are, in the words of its line, and a call that appends exactly its lines to those of others and
+//! counts them. The kinds that need no waves stand in `drawing_omissions`, with what is found where
+//! a drawing is expanded.
 //!
 //! `specs/Paths` says which net leads to which, and `specs/Passing` what passes on a change in a
 //! case: [`parts`] finds the loops, [`CasePaths`] what storage launches, and [`CaseGates`] what
-//! clocks reach. [`SoFar`] gathers what the cases tell, one after another. [`spreads`] goes down the
-//! statements as the expansion does, and finds the names that are spread (`specs/Spreads`,
-//! `specs/Widths`).
+//! clocks reach. [`SoFar`] gathers what the cases tell, one after another.
 #![tactic(auto)]
 
-// lines, and the pins that they are about
-mod notes;
+// the pins that lines are about
 mod pins;
 
-// what instances alone tell
+// what instances alone show
 mod idle;
 mod unchecked;
 mod unread;
@@ -32,7 +30,7 @@ mod loop_notes;
 mod loops;
 mod passing;
 
-// what waves tell, case by case
+// what waves show, case by case
 mod case_gates;
 mod case_paths;
 mod cases;
@@ -46,50 +44,26 @@ mod unclocked;
 mod unknown;
 mod unmarked;
 
-// names that nothing determines, and cases
-mod case_bits;
-mod case_notes;
-mod loose;
-mod near;
-mod part;
-
-// what is found where a drawing is expanded
-mod body;
-mod fors;
-mod spread;
-mod spread_notes;
-mod walk;
-mod width;
-
 // the call
 mod drawn;
 mod program;
 mod reply;
 mod report;
 
-pub use case_bits::{CaseBit, CaseBits, case_values, written_cases};
 pub use case_gates::CaseGates;
-pub use case_notes::add_cases;
 pub use case_paths::CasePaths;
 pub use cases::SoFar;
 pub use common::add_common;
-pub use fors::{add_empty, for_places};
 pub use found::Found;
 pub use idle::add_idle;
 pub use late::add_late;
 pub use launched::{Arrival, Edges, order};
 pub use loop_notes::{add_loops, part_at};
 pub use loops::{Part, parts};
-pub use near::{Near, add_near};
-pub use notes::Notes;
-pub use part::add_part;
 pub use passing::View;
 pub use pins::{CLOCK, INPUT, has_clock, is_storage, pin_net, target_piece};
 pub use program::{NotesProgram, notes_main};
-pub use spread::{Finding, Findings, Reached, Spread};
-pub use spread_notes::add_spread;
 pub use unchecked::{Sampling, add_unchecked};
 pub use unclocked::add_unclocked;
 pub use unmarked::add_unmarked;
 pub use unread::add_unread;
-pub use walk::spreads;

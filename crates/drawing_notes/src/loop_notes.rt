@@ -3,10 +3,10 @@
 ghost use Rattle.std.specs.Prelude.{◌≡◌, ◌<◌, ◌^◌, IfOk, OnOk, length};
 ghost use Rattle.drawing_notes.specs.Loops.{loops};
 ghost use Rattle.drawing_notes.specs.Parts.{AreInside, AreSizes, part_at, together};
-ghost use Rattle.drawing_notes.specs.Lines.{Adds};
+ghost use Rattle.drawing_omissions.specs.Lines.{Adds};
 
 use crate::loops::Part;
-use crate::notes::Notes;
+use drawing_omissions::Notes;
 use fixpoint_engine::NetSet;
 use flat_circuit::Circuit;
 use listing::{Piece, net_piece};

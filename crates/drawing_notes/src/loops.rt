@@ -14,7 +14,7 @@ use flat_circuit::Circuit;
 use scald_base::NoMemory;
 use std::alloc::Global;
 
-/// A net of the loop that a net is on, the same for all of its nets; `None` where the net is on no
+/// A net of the loop that a net is on, the same for all of its nets; `None` if the net is on no
 /// loop.
 pub type Part = Option<u32>;
 
@@ -100,8 +100,8 @@ fn know(
     Ok(())
 }
 
-/// The part of each net: two nets have one part exactly where each of them leads to the other
-/// through gates and change functions, and a net has one exactly where it leads to itself.
+/// The part of each net: two nets have one part exactly if each of them leads to the other
+/// through gates and change functions, and a net has one exactly if it leads to itself.
 pub fn parts(alloc: Global, c: &Circuit) -> Result<Vec<Part>, NoMemory>
     ensures each_net { IfOk result (λ parts. length parts.items ≡ length c.now.nets) }
     ensures inside { IfOk result (λ parts. AreInside (length c.now.nets) parts.items) }

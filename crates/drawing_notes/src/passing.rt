@@ -14,7 +14,7 @@ use flat_circuit::{Circuit, Instance, Kind, Pin, Target};
 use step_values::Value;
 use wave_core::CyclicWave;
 
-/// The settled waves of a case of a circuit, and what they tell.
+/// The settled waves of a case of a circuit, and what they show.
 #[derive(Drop)]
 pub struct View<'a, W: CyclicWave<Item = Value>> {
     pub circuit: &'a Circuit,

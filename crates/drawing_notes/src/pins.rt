@@ -42,7 +42,7 @@ pub fn has_clock(kind: Kind) -> bool
     is_storage(kind) || kind.checks_points()
 }
 
-/// The net of a target, where it is one.
+/// The net of a target, if it is one.
 pub fn target_net(target: Target) -> Option<u32>
     ensures { result ≡ target_net target }
 {

@@ -9,7 +9,7 @@ ghost use Rattle.program_call.specs.Promise.{SettlesLoopless, WritesReport, may_
 ghost use Rattle.drawing_notes.specs.Answer.{notes_of, notes_program};
 
 use crate::reply::Noting;
-use program_call::{Replier, Reply, Wordless, main_call, reply_to};
+use program_call::{Omissions, Replier, Reply, Wordless, main_call, reply_to};
 use run_wave::RunWave;
 use scald_base::{NoMemory, Outcome, Sink, Source, Words};
 use std::alloc::Global;
@@ -30,7 +30,7 @@ impl Replier for NotesProgram {
     }
 
     fn reply(alloc: Global, text: &[u8]) -> Result<Reply<Outcome>, NoMemory> {
-        reply_to::<Noting, RunWave<Value>>(alloc, text, (), None, &mut 0)
+        reply_to::<Noting, RunWave<Value>>(alloc, text, (), None, &mut Omissions::unasked())
     }
 
     fn laws() {}
@@ -39,8 +39,8 @@ impl Replier for NotesProgram {
 /// Reads a drawing and writes what it does not say: a line for each note, kind by kind, and how
 /// many there are. Its name alone asks for it.
 ///
-/// `Clean` comes where the drawing is accepted, its waves settle and there is no note, and `Faulty`
-/// with the number of notes where there are some. Why a drawing is refused, or which net does not
+/// `Clean` comes if the drawing is accepted, its waves settle and there is no note, and `Faulty`
+/// with the number of notes if there are some. Why a drawing is refused, or which net does not
 /// settle, is written as `verify` has it. All of the answer is made before the first byte of it is
 /// written.
 pub fn notes_main<S: Source, K: Sink>(
@@ -65,5 +65,5 @@ pub fn notes_main<S: Source, K: Sink>(
     ensures loopless { (text : List ℕ) → AreTold notes_program words.now (S.left source.old) text →
         SettlesLoopless text result }
 {
-    main_call::<Wordless<NotesProgram>, S, K>(alloc, words, source, sink, &mut 0)
+    main_call::<Wordless<NotesProgram>, S, K>(alloc, words, source, sink, &mut Omissions::unasked())
 }

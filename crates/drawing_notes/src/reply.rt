@@ -1,7 +1,8 @@
 //! The notes on a drawing while its cases come one after the other.
 
+use crate::SoFar;
 use crate::report::report;
-use crate::{CaseBits, Findings, SoFar, for_places, spreads, written_cases};
+use drawing_omissions::{CaseBits, Findings, for_places, spreads, written_cases};
 use drawing_tree::{Drawing, Places};
 use fixpoint_engine::Waves;
 use flat_circuit::Circuit;
@@ -16,14 +17,14 @@ use wave_core::CyclicWave;
 #[derive(Drop)]
 pub struct Kept {
     pub version: u8,
-    /// What is found where it is expanded.
+    /// What is found while it is expanded.
     pub found: Findings,
     /// The places of its FORs, in the order of the text.
     pub fors: Places,
     pub cases: CaseBits,
 }
 
-/// What is kept of the drawing, and what the cases so far tell.
+/// What is kept of the drawing, and what the cases so far show.
 #[derive(Drop)]
 pub struct Noting {
     pub kept: Kept,

@@ -3,16 +3,17 @@
 ghost use Rattle.std.specs.Prelude.{◌≡◌, ◌++◌, ℕ, Bool, List, OnOk, IfOk};
 ghost use Rattle.fixpoint_engine.specs.Waves.{Waves};
 ghost use Rattle.timing_analysis.specs.Case.{Case};
-ghost use Rattle.drawing_notes.specs.Lines.{Adds};
+ghost use Rattle.drawing_omissions.specs.Lines.{Adds};
 ghost use Rattle.drawing_notes.specs.SoFar.{AreLaunches, HoldsOf, ways_of};
 ghost use Rattle.drawing_notes.specs.Report.{AreNotes, count_line, path_notes, single_notes};
 
 use crate::drawn::add_drawn;
 use crate::reply::Kept;
 use crate::{
-    Notes, SoFar, add_common, add_idle, add_late, add_loops, add_unchecked, add_unclocked,
-    add_unmarked, add_unread,
+    SoFar, add_common, add_idle, add_late, add_loops, add_unchecked, add_unclocked, add_unmarked,
+    add_unread,
 };
+use drawing_omissions::Notes;
 use flat_circuit::Circuit;
 use listing::{Piece, add_line, write_period};
 use program_call::{Reply, verdict};
@@ -64,7 +65,7 @@ fn add_paths(notes: &mut Notes, alloc: Global, c: &Circuit, so_far: &SoFar) -> R
     Ok(())
 }
 
-/// The reply with all notes on a circuit, by what is kept of its drawing and by what its cases tell.
+/// The reply with all notes on a circuit, by what is kept of its drawing and what its cases show.
 /// Where memory runs out, or there are more notes than numbers of 32 bits, it is `NoMemory`.
 pub fn report(
     alloc: Global,

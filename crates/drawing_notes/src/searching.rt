@@ -10,8 +10,8 @@ use element_kinds::Form;
 use step_values::{Step, Value};
 use wave_core::{CyclicWave, first_where};
 
-/// Whether a clock of this form does something where its fold has this value: an enable where it
-/// may be 1, any other clock where it may rise.
+/// Whether a clock of this form does something if its fold has this value: an enable if it
+/// may be 1, any other clock if it may rise.
 fn is_active(form: Form, value: Value) -> bool
     ensures { result ≡ spec_is_active form value }
 {

@@ -3,11 +3,11 @@
 ghost use Rattle.std.specs.Prelude.{◌≡◌, false, slice_get, true, IfOk, OnOk};
 ghost use Rattle.std.specs.List.{list_any};
 ghost use Rattle.element_kinds.specs.Kinds.{check_of};
-ghost use Rattle.drawing_notes.specs.Lines.{Adds};
+ghost use Rattle.drawing_omissions.specs.Lines.{Adds};
 ghost use Rattle.drawing_notes.specs.Unchecked.{AreSeen, across, is_across as spec_is_across, is_among, is_same, is_watched, sampling_of, seen_by, turned, unchecked, unchecked_at};
 
-use crate::notes::Notes;
 use crate::pins::{CLOCK, INPUT, is_inverted, is_latch, is_storage, pin_net};
+use drawing_omissions::Notes;
 use element_kinds::Check;
 use flat_circuit::{Circuit, Instance, Kind};
 use indexmap::IndexSet;
@@ -32,7 +32,7 @@ fn is_across(kind: Kind) -> bool
     matches!(kind.check(), Some(Check::RiseFall))
 }
 
-/// The clock and the input of an instance, where both are on nets.
+/// The clock and the input of an instance, if both are on nets.
 fn sampling_of(instance: &Instance) -> Option<Sampling>
     ensures { result ≡ sampling_of instance.now }
 {
@@ -63,7 +63,7 @@ fn seen(alloc: Global, c: &Circuit) -> Result<IndexSet<Sampling>, NoMemory>
     Ok(seen)
 }
 
-/// What an instance sees, where it is a checker of setup and hold.
+/// What an instance sees, if it is a checker of setup and hold.
 fn seen_by(c: &Circuit, number: u32) -> Option<Sampling>
     ensures { result ≡ seen_by (slice_get c.now.instances number) }
 {
@@ -131,7 +131,7 @@ fn is_among(seen: &IndexSet<Sampling>, kind: Kind, sampling: Option<Sampling>) -
     is_clocked(seen, sampling)
 }
 
-/// The note on an instance, where it is storage whose input is not seen.
+/// The note on an instance, if it is storage whose input is not seen.
 #[tactic(auto, unfolding(crate::specs::Unchecked::unchecked_line))]
 fn add_unchecked_at(
     notes: &mut Notes,

@@ -4,11 +4,12 @@ ghost use Rattle.std.specs.Prelude.{◌≡◌, ◌++◌, ◌∷◌, ◌||◌, []
 ghost use Rattle.flat_circuit.specs.Instances.{PinExists};
 ghost use Rattle.fixpoint_engine.specs.Waves.{FitWaves, waves_of};
 ghost use Rattle.timing_analysis.specs.Case.{Case};
-ghost use Rattle.drawing_notes.specs.Lines.{Adds};
+ghost use Rattle.drawing_omissions.specs.Lines.{Adds};
 ghost use Rattle.drawing_notes.specs.Unclocked.{AreActs, acts_at as spec_acts_at, acts_in as spec_acts_in, unclocked, unclocked_of};
 
 use crate::searching::has_active;
-use crate::{CLOCK, Notes, has_clock, target_piece};
+use crate::{CLOCK, has_clock, target_piece};
+use drawing_omissions::Notes;
 use element_kinds::Form;
 use fixpoint_engine::{Waves, pin_wave};
 use flat_circuit::{Circuit, Pin};
@@ -99,7 +100,7 @@ pub(crate) fn add_acts<W: CyclicWave<Item = Value>>(
     Ok(())
 }
 
-/// The note on an instance, where it has a clock or an enable that does nothing.
+/// The note on an instance, if it has a clock or an enable that does nothing.
 #[tactic(auto, unfolding(crate::specs::Unclocked::unclocked_line))]
 fn add_unclocked_at(notes: &mut Notes, c: &Circuit, number: u32, acts: bool) -> Result<(), NoMemory>
     ensures { OnOk result (Adds notes.old notes.new
@@ -124,7 +125,7 @@ fn add_unclocked_at(notes: &mut Notes, c: &Circuit, number: u32, acts: bool) -> 
 
 /// Appends the notes on registers, latches and checkers of setup and hold whose clock or enable
 /// does nothing in any case, in the order of expansion. `acts` says by the numbers of instances
-/// whose does something. `NoMemory` comes where memory runs out.
+/// whose does something. `NoMemory` comes if memory runs out.
 pub fn add_unclocked(notes: &mut Notes, c: &Circuit, acts: &[bool]) -> Result<(), NoMemory>
     requires { length acts.now ≡ length c.now.instances }
     ensures { OnOk result ((cases : List Case) → AreActs c.now cases acts.now →

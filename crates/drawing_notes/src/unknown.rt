@@ -3,11 +3,11 @@
 ghost use Rattle.std.specs.Prelude.{◌≡◌, ◌<◌, ◌-◌, ◌^◌, ◌∷◌, [], OnOk};
 ghost use Rattle.std.specs.List.{filter};
 ghost use Rattle.fixpoint_engine.specs.Waves.{FitWaves, waves_of};
-ghost use Rattle.drawing_notes.specs.Lines.{Adds};
+ghost use Rattle.drawing_omissions.specs.Lines.{Adds};
 ghost use Rattle.drawing_notes.specs.Unknown.{IsCounted, and_net, has_unknown as spec_has_unknown, unknown_in, unknown_line};
 
-use crate::Notes;
 use crate::searching::has_unknown;
+use drawing_omissions::Notes;
 use fixpoint_engine::Waves;
 use flat_circuit::Circuit;
 use listing::{Piece, net_piece};
@@ -25,7 +25,7 @@ pub struct Counted {
 }
 
 impl Counted {
-    /// With a net more, where it counts.
+    /// With a net more, if it counts.
     fn and(self, net: u32, counts: bool) -> Counted
         requires { self.count < 2 ^ 32 - 1 }
         ensures { result ≡ and_net self net counts }
@@ -81,7 +81,7 @@ fn add_note(
     ])
 }
 
-/// Appends the note on one case more, where something is unknown in its waves.
+/// Appends the note on one case more, if something is unknown in its waves.
 pub(crate) fn add_unknown<W: CyclicWave<Item = Value>>(
     notes: &mut Notes,
     c: &Circuit,

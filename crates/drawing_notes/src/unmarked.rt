@@ -1,16 +1,16 @@
 //! The notes on gates that let a clock through without a mark.
 
 ghost use Rattle.std.specs.Prelude.{◌≡◌, OnOk, length, slice_get};
-ghost use Rattle.drawing_notes.specs.Lines.{Adds};
+ghost use Rattle.drawing_omissions.specs.Lines.{Adds};
 ghost use Rattle.drawing_notes.specs.Unmarked.{first_at, unmarked_by, unmarked_on, unmarked_pin};
 
-use crate::notes::Notes;
 use crate::pins::pin_net;
+use drawing_omissions::Notes;
 use flat_circuit::Circuit;
 use listing::{Piece, instance_piece, net_piece};
 use scald_base::NoMemory;
 
-/// The note on the pin at a place of an instance, where it is on a net.
+/// The note on the pin at a place of an instance, if it is on a net.
 #[tactic(auto, unfolding(crate::specs::Unmarked::unmarked_line))]
 fn add_unmarked_on(
     notes: &mut Notes,
@@ -55,7 +55,7 @@ fn add_unmarked_at(
 
 /// Appends the notes on gates without a hazard mark that let a clock through to storage or a
 /// checker, and another pin of which may change in a case in which the clock does, in the order of
-/// expansion. `firsts` has the first such pin of each instance. `NoMemory` comes where memory runs
+/// expansion. `firsts` has the first such pin of each instance. `NoMemory` comes if memory runs
 /// out.
 pub fn add_unmarked(
     notes: &mut Notes,

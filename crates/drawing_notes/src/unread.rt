@@ -1,59 +1,16 @@
 //! Driven nets that nothing reads.
 
-ghost use Rattle.std.specs.Prelude.{◌≡◌, ◌∷◌, [], slice_get, IfOk, OnOk, length};
-ghost use Rattle.std.specs.List.{All};
-ghost use Rattle.flat_circuit.specs.Instances.{PinExists, pins_at};
-ghost use Rattle.drawing_notes.specs.Lines.{Adds};
-ghost use Rattle.drawing_notes.specs.Unread.{AreRead, MarksPins, is_plain_output, is_unread, unread, unread_at};
+ghost use Rattle.std.specs.Prelude.{◌≡◌, slice_get, OnOk};
+ghost use Rattle.drawing_omissions.specs.Lines.{Adds};
+ghost use Rattle.drawing_omissions.specs.Read.{AreRead};
+ghost use Rattle.drawing_notes.specs.Unread.{is_plain_output, is_unread, unread, unread_at};
 
-use crate::notes::Notes;
+use drawing_omissions::{Notes, read_nets};
 use fixpoint_engine::NetSet;
-use flat_circuit::{Circuit, Pin, Target};
+use flat_circuit::Circuit;
 use listing::{Piece, net_piece};
 use scald_base::{AssertSpec, NoMemory};
 use std::alloc::Global;
-
-/// Puts the net that a pin is on into a set.
-fn mark_pin(read: &mut NetSet, pin: Pin)
-    requires { PinExists (length read.old) pin }
-    ensures { MarksPins (pin ∷ []) read.old read.new }
-{
-    if let Target::Net(net) = pin.target {
-        read.add(net);
-    }
-}
-
-/// Puts the nets that pins are on into a set.
-fn mark(read: &mut NetSet, pins: &[Pin])
-    requires { All (PinExists (length read.old)) pins.now }
-    ensures { MarksPins pins.now read.old read.new }
-{
-    for pin in pins {
-        mark_pin(read, *pin);
-    }
-}
-
-/// Puts the nets that the pins of an instance are on into a set.
-fn mark_instance(read: &mut NetSet, c: &Circuit, number: u32)
-    requires { length read.old ≡ length c.now.nets }
-    ensures { MarksPins (pins_at c.now.instances number) read.old read.new }
-{
-    c.known();
-    if let Some(instance) = c.instance(number) {
-        mark(read, instance.pins.as_slice());
-    }
-}
-
-/// The nets that some pin is on.
-pub(crate) fn read_nets(alloc: Global, c: &Circuit) -> Result<NetSet, NoMemory>
-    ensures { IfOk result (AreRead c.now.instances) }
-{
-    let mut read = NetSet::new(alloc, c.net_count())?;
-    for number in 0..c.instance_count() {
-        mark_instance(&mut read, c, number);
-    }
-    Ok(read)
-}
 
 /// Whether the net is driven and nothing is asserted of it.
 fn is_plain_output(c: &Circuit, net: u32) -> bool
@@ -74,7 +31,7 @@ fn is_unread(c: &Circuit, read: &NetSet, net: u32) -> bool
     is_plain_output(c, net) && !read.has(net)
 }
 
-/// The note on a net, where nothing reads it.
+/// The note on a net, if nothing reads it.
 #[tactic(auto, unfolding(crate::specs::Unread::unread_line))]
 fn add_unread_at(notes: &mut Notes, c: &Circuit, read: &NetSet, net: u32) -> Result<(), NoMemory>
     requires { AreRead c.now.instances read.now }

@@ -10,7 +10,7 @@ ghost use Rattle.fault_chain.specs.Answer.{chains, chains_of};
 ghost use Rattle.fault_chain.specs.Laws.{ChainsAreWhole, DrawnChainsAreWhole};
 
 use crate::reporter::Chains;
-use program_call::{Replier, Reply, Wordless, main_call, reply_to};
+use program_call::{Omissions, Replier, Reply, Wordless, main_call, reply_to};
 use run_wave::RunWave;
 use scald_base::{NoMemory, Outcome, Sink, Source, Words};
 use std::alloc::Global;
@@ -33,7 +33,7 @@ impl Replier for ChainProgram {
     }
 
     fn reply(alloc: Global, text: &[u8]) -> Result<Reply<Outcome>, NoMemory> {
-        reply_to::<Chains, RunWave<Value>>(alloc, text, (), None, &mut 0)
+        reply_to::<Chains, RunWave<Value>>(alloc, text, (), None, &mut Omissions::unasked())
     }
 
     fn laws() {}
@@ -72,5 +72,5 @@ pub fn chain_main<S: Source, K: Sink>(
     ensures chains_whole { ChainsAreWhole }
     ensures drawn_whole { DrawnChainsAreWhole }
 {
-    main_call::<Wordless<ChainProgram>, S, K>(alloc, words, source, sink, &mut 0)
+    main_call::<Wordless<ChainProgram>, S, K>(alloc, words, source, sink, &mut Omissions::unasked())
 }

@@ -27,7 +27,7 @@ use Rattle.margin_report.specs.declared.margin.Parameter.{Parameter}
 use Rattle.margin_report.specs.declared.margin.Parameter.TheVariants.{Setup, Hold, High, Low}
 use Rattle.margin_report.specs.declared.margin.Margin.{Margin}
 use Rattle.margin_report.specs.declared.margin.Margin.TheVariants.{Limit}
-use Rattle.margin_report.specs.declared.rows.Row.{Row}
+use Rattle.margin_report.specs.declared.margin.Row.{Row}
 use Rattle.margin_report.specs.Margin.{AreWithin, IsAskedBy, IsBelow, greatest_to, margin, most_more, parameters_in, spare}
 use Rattle.margin_report.specs.Report.{IsRow, rows, rows_at, rows_in}
 

@@ -14,7 +14,7 @@ use Rattle.margin_report.specs.declared.margin.Parameter.{Parameter}
 use Rattle.margin_report.specs.declared.margin.Parameter.TheVariants.{Setup, Hold, High, Low}
 use Rattle.margin_report.specs.declared.margin.Margin.{Margin}
 use Rattle.margin_report.specs.declared.margin.Margin.TheVariants.{Fault as Faulty, Limit, Next}
-use Rattle.margin_report.specs.declared.rows.Row.{Row}
+use Rattle.margin_report.specs.declared.margin.Row.{Row}
 use Rattle.margin_report.specs.Margin.{IsAskedBy, IsBelow, margin, parameters_in, spare}
 
 -- ---- which margins there are

@@ -18,6 +18,6 @@ mod reporter;
 // beside the call
 pub mod laws;
 
-pub use margin::{Margin, Parameter};
+pub use margin::{Margin, Parameter, Row};
 pub use program::{MarginProgram, margin_main};
-pub use rows::{Row, Rows};
+pub use rows::Rows;

@@ -5,8 +5,7 @@ ghost use Rattle.std.specs.List.{flat_map};
 ghost use Rattle.listing.specs.Piece.{piece_text};
 ghost use Rattle.margin_report.specs.Report.{count_line, margin_line, margin_text, parameter_text};
 
-use crate::margin::{Margin, Parameter};
-use crate::rows::Row;
+use crate::margin::{Margin, Parameter, Row};
 use flat_circuit::Circuit;
 use listing::{Piece, add_line, add_pieces, instance_piece, write_unnamed_fault};
 use scald_base::{Bytes, NoMemory};

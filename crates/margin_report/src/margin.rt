@@ -42,3 +42,11 @@ impl Margin {
         }
     }
 }
+
+/// A parameter of a checker, which goes by its number, and its margin.
+#[derive(Clone, Copy, PartialEq, Eq, Debug)]
+pub struct Row {
+    pub instance: u32,
+    pub parameter: Parameter,
+    pub margin: Margin,
+}

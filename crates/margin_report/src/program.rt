@@ -12,7 +12,7 @@ ghost use Rattle.margin_report.specs.Promise.{may_answer};
 ghost use Rattle.margin_report.specs.Tried.{TriedAsWritten};
 
 use crate::reporter::Margins;
-use program_call::{Replier, Reply, Wordless, main_call, reply_to};
+use program_call::{Omissions, Replier, Reply, Wordless, main_call, reply_to};
 use run_wave::RunWave;
 use scald_base::{NoMemory, Outcome, Sink, Source, Words};
 use std::alloc::Global;
@@ -35,7 +35,7 @@ impl Replier for MarginProgram {
     }
 
     fn reply(alloc: Global, text: &[u8]) -> Result<Reply<Outcome>, NoMemory> {
-        reply_to::<Margins, RunWave<Value>>(alloc, text, (), None, &mut 0)
+        reply_to::<Margins, RunWave<Value>>(alloc, text, (), None, &mut Omissions::unasked())
     }
 
     fn laws() {}
@@ -75,5 +75,11 @@ pub fn margin_main<S: Source, K: Sink>(
     ensures monotone { FittingIsMonotone }
     ensures margins_true { MarginsAreTrue }
 {
-    main_call::<Wordless<MarginProgram>, S, K>(alloc, words, source, sink, &mut 0)
+    main_call::<Wordless<MarginProgram>, S, K>(
+        alloc,
+        words,
+        source,
+        sink,
+        &mut Omissions::unasked(),
+    )
 }

@@ -9,7 +9,7 @@ ghost use Rattle.timing_analysis.specs.Case.{Case};
 ghost use Rattle.margin_report.specs.Margin.{AreWithin, IsAskedBy, IsBelow, margin as margin_over, parameters_in, spare as most_more};
 ghost use Rattle.margin_report.specs.Report.{IsRow, rows as rows_over, rows_in};
 
-use crate::margin::{Margin, Parameter};
+use crate::margin::{Margin, Parameter, Row};
 use crate::search::{fault_with, spare, stop_before};
 use element_kinds::Check;
 use fixpoint_engine::Waves;
@@ -18,14 +18,6 @@ use scald_base::{List, NoMemory};
 use std::alloc::Global;
 use step_values::Value;
 use wave_core::CyclicWave;
-
-/// A parameter of a checker, which goes by its number, and its margin.
-#[derive(Clone, Copy, PartialEq, Eq, Debug)]
-pub struct Row {
-    pub instance: u32,
-    pub parameter: Parameter,
-    pub margin: Margin,
-}
 
 /// Margins, in the order of their lines.
 pub type Rows = List<Row>;
@@ -98,21 +90,16 @@ fn lowered<W: CyclicWave<Item = Value>>(
         m ≡ margin_over c.now (cases ++ one ∷ []) row.instance checker.now row.parameter) }
 {
     c.header().known();
-    let Row {
-        instance,
-        parameter,
-        margin,
-    } = row;
-    let Some(more) = margin.more() else {
-        return Ok(margin);
+    let Some(more) = row.margin.more() else {
+        return Ok(row.margin);
     };
-    let Some(found) = fault_with(alloc, c, waves, instance, checker, parameter, more)? else {
-        return Ok(margin);
+    let Some(found) = fault_with(alloc, c, waves, row, checker, more)? else {
+        return Ok(row.margin);
     };
-    if fault_with(alloc, c, waves, instance, checker, parameter, 0)?.is_some() {
+    if fault_with(alloc, c, waves, row, checker, 0)?.is_some() {
         return Ok(Margin::Fault);
     }
-    let (more, fault) = stop_before(alloc, c, waves, instance, checker, parameter, more, found)?;
+    let (more, fault) = stop_before(alloc, c, waves, row, checker, more, found)?;
     Ok(Margin::Next { more, case, fault })
 }
 
@@ -136,16 +123,11 @@ pub fn lower<W: CyclicWave<Item = Value>>(
         let row = rows.as_slice()[place];
         if let Some(checker) = c.instance(row.instance) {
             let margin = lowered(alloc, c, case, waves, checker, row)?;
-            let Row {
-                instance,
-                parameter,
-                margin: _,
-            } = row;
             rows.set(
                 place,
                 Row {
-                    instance,
-                    parameter,
+                    instance: row.instance,
+                    parameter: row.parameter,
                     margin,
                 },
             );

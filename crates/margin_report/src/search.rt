@@ -5,7 +5,7 @@ ghost use Rattle.scald_base.specs.Time.{period};
 ghost use Rattle.fixpoint_engine.specs.Waves.{FitWaves, waves_of};
 ghost use Rattle.margin_report.specs.Margin.{AreWithin, IsAskedBy, StopsAt, fault_with as fault_in, spare, written};
 
-use crate::margin::Parameter;
+use crate::margin::{Parameter, Row};
 use fixpoint_engine::Waves;
 use flat_circuit::{Circuit, Fault, Instance, Limits};
 use point_check::point_fault;
@@ -39,29 +39,29 @@ pub fn spare(period: u16, limits: Limits, parameter: Parameter) -> u16
     }
 }
 
-/// The fault that a checker has in these waves, if a parameter is so much more than it is
-/// written and the other as it is.
+/// The fault that the checker of a row has in these waves, if the row's parameter is so much more
+/// than it is written and the other as it is.
 pub fn fault_with<W: CyclicWave<Item = Value>>(
     alloc: Global,
     c: &Circuit,
     waves: &Waves<W>,
-    number: u32,
+    row: Row,
     checker: &Instance,
-    parameter: Parameter,
     more: u16,
 ) -> Result<Option<Fault>, NoMemory>
-    requires there { slice_get c.now.instances number ≡ Some checker.now }
-    requires asked { IsAskedBy checker.now parameter }
-    requires within { AreWithin (period c.now.header) checker.now.limits parameter }
-    requires more { more ≤ spare (period c.now.header) checker.now.limits parameter }
+    requires there { slice_get c.now.instances row.instance ≡ Some checker.now }
+    requires asked { IsAskedBy checker.now row.parameter }
+    requires within { AreWithin (period c.now.header) checker.now.limits row.parameter }
+    requires more { more ≤ spare (period c.now.header) checker.now.limits row.parameter }
     requires fit { FitWaves c.now waves.now }
-    ensures { IfOk result (λ found. found ≡ fault_in c.now (waves_of waves.now) number checker.now
-        parameter (written checker.now.limits parameter + more)) }
+    ensures { IfOk result (λ found. found ≡ fault_in c.now (waves_of waves.now) row.instance
+        checker.now row.parameter (written checker.now.limits row.parameter + more)) }
 {
     c.header().known();
     let limits = checker.limits;
-    let value = written(limits, parameter) + more;
-    match parameter {
+    let number = row.instance;
+    let value = written(limits, row.parameter) + more;
+    match row.parameter {
         Parameter::Setup => {
             let hold = limits.hold();
             let longer = Limits::Edges { setup: value, hold };
@@ -77,30 +77,30 @@ pub fn fault_with<W: CyclicWave<Item = Value>>(
     }
 }
 
-/// By how much more a checker that fits as it is written stops fitting, if with so much more it
-/// has this fault: found by halves, since what does not fit fits no better with more. The answer is
-/// how much more still fits, and the fault with one more.
+/// By how much more the checker of a row that fits as it is written stops fitting, if with so much
+/// more it has this fault: found by halves, since what does not fit fits no better with more. The
+/// answer is how much more still fits, and the fault with one more.
 pub fn stop_before<W: CyclicWave<Item = Value>>(
     alloc: Global,
     c: &Circuit,
     waves: &Waves<W>,
-    number: u32,
+    row: Row,
     checker: &Instance,
-    parameter: Parameter,
     most: u16,
     found: Fault,
 ) -> Result<(u16, Fault), NoMemory>
-    requires there { slice_get c.now.instances number ≡ Some checker.now }
-    requires asked { IsAskedBy checker.now parameter }
-    requires within { AreWithin (period c.now.header) checker.now.limits parameter }
-    requires most { most ≤ spare (period c.now.header) checker.now.limits parameter }
+    requires there { slice_get c.now.instances row.instance ≡ Some checker.now }
+    requires asked { IsAskedBy checker.now row.parameter }
+    requires within { AreWithin (period c.now.header) checker.now.limits row.parameter }
+    requires most { most ≤ spare (period c.now.header) checker.now.limits row.parameter }
     requires fit { FitWaves c.now waves.now }
-    requires fits { fault_in c.now (waves_of waves.now) number checker.now
-        parameter (written checker.now.limits parameter + 0) ≡ None }
-    requires found { fault_in c.now (waves_of waves.now) number checker.now
-        parameter (written checker.now.limits parameter + most) ≡ Some found }
+    requires fits { fault_in c.now (waves_of waves.now) row.instance checker.now
+        row.parameter (written checker.now.limits row.parameter + 0) ≡ None }
+    requires found { fault_in c.now (waves_of waves.now) row.instance checker.now
+        row.parameter (written checker.now.limits row.parameter + most) ≡ Some found }
     ensures stops { IfOk result (λ stop.
-        StopsAt c.now (waves_of waves.now) number checker.now parameter stop.0 stop.1) }
+        StopsAt c.now (waves_of waves.now) row.instance checker.now row.parameter
+        stop.0 stop.1) }
     ensures sooner { IfOk result (λ stop. stop.0 < most) }
 {
     let mut fits = 0;
@@ -108,7 +108,7 @@ pub fn stop_before<W: CyclicWave<Item = Value>>(
     let mut fault = found;
     while fits + 1 < faulty {
         let middle = fits + (faulty - fits) / 2;
-        match fault_with(alloc, c, waves, number, checker, parameter, middle)? {
+        match fault_with(alloc, c, waves, row, checker, middle)? {
             Some(sooner) => {
                 faulty = middle;
                 fault = sooner;

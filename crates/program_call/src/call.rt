@@ -6,6 +6,7 @@ ghost use Rattle.program_call.specs.Call.{EndsAsking, IsCall, devices};
 ghost use Rattle.program_call.specs.Program.{asks, most_for};
 
 use crate::program::Program;
+use drawing_omissions::Omissions;
 use scald_base::{Bytes, CallEnd, ReadEnd, Sink, Source, Words, read_all, write_all};
 use std::alloc::Global;
 
@@ -15,13 +16,13 @@ use std::alloc::Global;
 /// past the most that the program reads, or to its first fault. All of the answer is made before
 /// the first byte of it is written.
 ///
-/// `undriven` becomes what the program sets it to (`Program::reply`).
+/// `omissions` become what the program counts (`Program::reply`).
 pub fn main_call<P: Program, S: Source, K: Sink>(
     alloc: Global,
     words: &Words,
     source: &mut S,
     sink: &mut K,
-    undriven: &mut u32,
+    omissions: &mut Omissions,
 ) -> P::Outcome
     ensures { IsCall P.meaning P.promised words.now result
         (devices S.left S.faults K.taken K.faults) source.old source.new sink.old sink.new }
@@ -31,7 +32,7 @@ pub fn main_call<P: Program, S: Source, K: Sink>(
         Ok(asked) => asked,
         Err(end) => return P::ended(end),
     };
-    let reply = match P::reply(alloc, command, text.as_slice(), undriven) {
+    let reply = match P::reply(alloc, command, text.as_slice(), omissions) {
         Ok(reply) => reply,
         Err(_) => return P::ended(CallEnd::NoMemory),
     };

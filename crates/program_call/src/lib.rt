@@ -21,7 +21,6 @@ mod ends;
 mod outcome;
 mod reporter;
 mod text_reply;
-mod undriven;
 
 // words
 mod numbers;
@@ -29,6 +28,7 @@ mod wordless;
 mod words;
 
 pub use call::main_call;
+pub use drawing_omissions::Omissions;
 pub use ends::{ended, refused};
 pub use numbers::{number_in, rounds_of};
 pub use outcome::verdict;

@@ -4,6 +4,7 @@ ghost use Rattle.std.specs.Prelude.{◌≡◌, ◌≤◌, ◌<◌, ◌-◌, ◌^
 ghost use Rattle.program_call.specs.Program.{IsLawful, Meaning};
 
 use crate::reply::Reply;
+use drawing_omissions::Omissions;
 use scald_base::{CallEnd, NoMemory, Words};
 use std::alloc::Global;
 
@@ -41,13 +42,12 @@ pub trait Program {
         ensures bounded { result < 2 ^ 32 - 1 };
 
     /// The reply to a text, which is empty if the source is not read. A program that verifies
-    /// sets `undriven` to how many nets of the circuit nothing determines: neither a driver nor an
-    /// assertion nor a case. Nothing is promised of that number.
+    /// counts in `omissions` what the drawing leaves out. Nothing is promised of them.
     fn reply(
         alloc: Global,
         command: Self::Command,
         text: &[u8],
-        undriven: &mut u32,
+        omissions: &mut Omissions,
     ) -> Result<Reply<Self::Outcome>, NoMemory>
         requires within { within command }
         requires short { length text.now ≤ meaning.most_bytes (Ok command) }

@@ -11,9 +11,10 @@ use crate::Reply;
 use crate::cases::report_cases;
 use crate::ends::{ended, refused};
 use crate::reporter::Reporter;
-use crate::undriven::count_undriven;
 use case_analysis::default_limit;
+use drawing_omissions::Omissions;
 use flat_circuit::Circuit;
+use macro_expander::expanded;
 use scald_base::{NoMemory, Outcome, Stop};
 use std::alloc::Global;
 use step_values::Value;
@@ -25,14 +26,14 @@ use wave_core::CyclicWave;
 /// or else as many as the circuit's own limit has; or why the text is refused, or which net does
 /// not settle. It is the same whichever kind of waves is chosen.
 ///
-/// If the text is accepted, `undriven` becomes how many nets of its circuit nothing determines:
-/// neither a driver nor an assertion nor a case. Nothing is promised of that number.
+/// If the text is accepted, `omissions` count what its drawing leaves out, if they are asked for.
+/// Nothing is promised of them.
 pub fn reply_to<R: Reporter, W: CyclicWave<Item = Value>>(
     alloc: Global,
     text: &[u8],
     asked: R::Asked,
     rounds: Option<u32>,
-    undriven: &mut u32,
+    omissions: &mut Omissions,
 ) -> Result<Reply<Outcome>, NoMemory>
     requires short { length text.now < 2 ^ 32 - 1 }
     requires few { IfSome rounds (λ limit. limit ≤ 10000000) }
@@ -41,11 +42,9 @@ pub fn reply_to<R: Reporter, W: CyclicWave<Item = Value>>(
     ensures faultless { IfOk result (λ reply.
         is_finished reply.outcome ≡ true → FaultlessNeverBreaks text.now) }
 {
-    match read::<R>(alloc, text) {
+    match read::<R>(alloc, text, omissions) {
         Ok((kept, subject)) => {
-            if let Ok(count) = count_undriven(alloc, &subject.circuit, &subject.cases) {
-                *undriven = count;
-            }
+            omissions.count_circuit(alloc, &subject.circuit, subject.cases.as_slice());
             let limit = limit_for(&subject.circuit, rounds);
             match report_cases::<R, W>(alloc, &subject, asked, kept, limit) {
                 Ok(reply) => Ok(reply),
@@ -58,8 +57,13 @@ pub fn reply_to<R: Reporter, W: CyclicWave<Item = Value>>(
 }
 
 /// What is kept of the drawing of a text, and what is evaluated of it. The tree of the drawing goes
-/// before its circuit is finished.
-fn read<R: Reporter>(alloc: Global, text: &[u8]) -> Result<(R::Kept, Subject), Stop>
+/// before its circuit is finished. Its statements are gone through again only once it is expanded:
+/// in a drawing that is refused FORs may have turns without end.
+fn read<R: Reporter>(
+    alloc: Global,
+    text: &[u8],
+    omissions: &mut Omissions,
+) -> Result<(R::Kept, Subject), Stop>
     requires { length text.now < 2 ^ 32 - 1 }
     ensures read { IfOk result (λ read. IsRead R.keeps text.now read.0 read.1) }
     ensures refused { IfErr result (λ stop. (r : Refusal) → stop ≡ Stop.Refused r →
@@ -69,8 +73,13 @@ fn read<R: Reporter>(alloc: Global, text: &[u8]) -> Result<(R::Kept, Subject), S
         Ok(drawing) => drawing,
         Err(stop) => return Err(stop),
     };
+    let expansion = match expanded(alloc, &drawing) {
+        Ok(expansion) => expansion,
+        Err(stop) => return Err(stop),
+    };
     let kept = R::keep(alloc, &drawing)?;
-    let drawn = match circuit_of(alloc, drawing) {
+    omissions.count_drawing(alloc, &drawing);
+    let drawn = match circuit_of(alloc, drawing, expansion) {
         Ok(drawn) => drawn,
         Err(stop) => return Err(stop),
     };

@@ -6,6 +6,7 @@ ghost use Rattle.program_call.specs.Wordless.{Replying, most_bytes, wordless};
 
 use crate::words::{Request, read_name};
 use crate::{Program, Reply};
+use drawing_omissions::Omissions;
 use scald_base::{CallEnd, NoMemory, Outcome, Words};
 use std::alloc::Global;
 use std::marker::PhantomData;
@@ -66,7 +67,7 @@ impl<R: Replier> Program for Wordless<R> {
         alloc: Global,
         _request: Request,
         text: &[u8],
-        _undriven: &mut u32,
+        _omissions: &mut Omissions,
     ) -> Result<Reply<Outcome>, NoMemory> {
         R::reply(alloc, text)
     }

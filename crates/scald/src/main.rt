@@ -5,9 +5,9 @@
 //!
 //! The first word names a main call: `notes` is `drawing_notes::notes_main`, `margins` is
 //! `margin_report::margin_main`, `chains` is `fault_chain::chain_main`, `slack` and `explain` are
-//! `slack_report::slack_main`, `sections` is `section_compose::sections_main`, `run` and `judge`
-//! are `trace_tool::trace_main`, and all other words are those of `scald_tool::tool_main`. The
-//! contract of each says what its answer means.
+//! `slack_report::slack_main`, `sections` is `section_compose::sections_main`, `run`, `vcd` and
+//! `judge` are `trace_tool::trace_main`, `import` is `netlist_import::import_main`, and all other
+//! words are those of `scald_tool::tool_main`. The contract of each says what its answer means.
 #![tactic(auto)]
 
 ghost use Rattle.std.specs.Prelude.{◌≡◌};
@@ -23,9 +23,9 @@ mod unstarted;
 
 use diagnostics::KeptSource;
 use named::{Answer, answer_to};
-use said::{say, say_answer, say_undriven};
+use said::{say, say_answer, say_omissions};
 use scald_base::{Outcome, Sink, Source, StdSink, StdSource};
-use scald_tool::{Words, words_of};
+use scald_tool::{Omissions, Words, words_of};
 use std::io::Eprint;
 use std::process::ExitCode;
 use std::rt::Env;
@@ -45,20 +45,20 @@ fn end_unstarted(rt: &impl Eprint, cause: Unstarted) -> ExitCode
     ExitCode::from(cause.status())
 }
 
-/// Says why there is no answer, if there is none, or else how many nets nothing determines, and
-/// gives the status of the outcome.
+/// Says why there is no answer, if there is none, or else what the drawing leaves out, and gives
+/// the status of the outcome.
 fn end(
     rt: &(impl Eprint + AllocGlobal),
     words: &Words,
     text: Option<&[u8]>,
     answer: &Answer,
-    undriven: u32,
+    omissions: &Omissions,
 ) -> ExitCode
     ensures { exit_status result ≡ status_of answer.now }
 {
     say_answer(rt, words, text, answer);
     if let Answer::Drawing(Outcome::Clean | Outcome::Faulty(_)) = answer {
-        say_undriven(rt, undriven);
+        say_omissions(rt, omissions);
     }
     ExitCode::from(answer.status())
 }
@@ -74,9 +74,9 @@ fn answered<S: Source, K: Sink>(
         (devices ⟦<KeptSource<S> as Source>⟧.left ⟦<KeptSource<S> as Source>⟧.faults
         K.taken K.faults) source.old source.new sink.old sink.new }
 {
-    let mut undriven = 0;
-    let answer = answer_to(rt.alloc(), words, source, sink, &mut undriven);
-    end(rt, words, source.kept(), &answer, undriven)
+    let mut omissions = Omissions::asked();
+    let answer = answer_to(rt.alloc(), words, source, sink, &mut omissions);
+    end(rt, words, source.kept(), &answer, &omissions)
 }
 
 // No clause says that the words are the process' arguments and the devices its standard streams:

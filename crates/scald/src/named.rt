@@ -10,8 +10,9 @@ ghost use Rattle.timing_analysis.specs.Promise.{FaultlessNeverBreaks, NeverBreak
 use drawing_notes::notes_main;
 use fault_chain::chain_main;
 use margin_report::margin_main;
+use netlist_import::{ImportOutcome, import_main, import_status};
 use scald_base::{Outcome, Sink, Source, Words};
-use scald_tool::{status, tool_main};
+use scald_tool::{Omissions, status, tool_main};
 use section_compose::{SectionsOutcome, sections_main, sections_status};
 use slack_report::slack_main;
 use std::alloc::Global;
@@ -34,14 +35,17 @@ pub enum Call {
     Sections,
     /// That of the simulator.
     Simulator,
+    /// That of the import of netlists.
+    Importer,
 }
 
-/// What a main call answers: to one drawing, to several, or of a run.
-#[derive(Clone, Copy, Debug)]
+/// What a main call answers: to one drawing, to several, of a run, or to a netlist.
+#[derive(Clone, Copy)]
 pub enum Answer {
     Drawing(Outcome),
     Sections(SectionsOutcome),
     Run(TraceOutcome),
+    Netlist(ImportOutcome),
 }
 
 impl Answer {
@@ -53,6 +57,7 @@ impl Answer {
             Answer::Drawing(outcome) => status(outcome),
             Answer::Sections(outcome) => sections_status(outcome),
             Answer::Run(outcome) => trace_status(outcome),
+            Answer::Netlist(outcome) => import_status(outcome),
         }
     }
 }
@@ -79,21 +84,25 @@ fn call_of(words: &Words) -> Call
         Call::Sections
     } else if first.as_slice() == b"run".as_slice() {
         Call::Simulator
+    } else if first.as_slice() == b"vcd".as_slice() {
+        Call::Simulator
     } else if first.as_slice() == b"judge".as_slice() {
         Call::Simulator
+    } else if first.as_slice() == b"import".as_slice() {
+        Call::Importer
     } else {
         Call::Tool
     }
 }
 
-/// The answer of the main call that the first word names, to all words. `undriven` is as
-/// `tool_main` sets it.
+/// The answer of the main call that the first word names, to all words. `omissions` are as
+/// `tool_main` counts them.
 pub fn answer_to<S: Source, K: Sink>(
     alloc: Global,
     words: &Words,
     source: &mut S,
     sink: &mut K,
-    undriven: &mut u32,
+    omissions: &mut Omissions,
 ) -> Answer
     ensures call { IsAnswerOf (call_of words.now) words.now result
         (devices S.left S.faults K.taken K.faults) source.old source.new sink.old sink.new }
@@ -115,12 +124,13 @@ pub fn answer_to<S: Source, K: Sink>(
         result ≡ Answer.Sections SectionsOutcome.Clean → NeverBreaksJoined text) }
 {
     match call_of(words) {
-        Call::Tool => Answer::Drawing(tool_main(alloc, words, source, sink, undriven)),
+        Call::Tool => Answer::Drawing(tool_main(alloc, words, source, sink, omissions)),
         Call::Notes => Answer::Drawing(notes_main(alloc, words, source, sink)),
         Call::Margins => Answer::Drawing(margin_main(alloc, words, source, sink)),
         Call::Chains => Answer::Drawing(chain_main(alloc, words, source, sink)),
         Call::Slacks => Answer::Drawing(slack_main(alloc, words, source, sink)),
         Call::Sections => Answer::Sections(sections_main(alloc, words, source, sink)),
         Call::Simulator => Answer::Run(trace_main(alloc, words, source, sink)),
+        Call::Importer => Answer::Netlist(import_main(alloc, words, source, sink)),
     }
 }

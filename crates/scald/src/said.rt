@@ -1,13 +1,16 @@
 //! What the program says on standard error: why it ends without an answer to the drawing, and
-//! beside an answer which nets cross between sections, and how many nets are taken as constant. The
-//! status says what matters, so nothing is promised of these lines.
+//! beside an answer which nets cross between sections, how many nets are taken as constant, and how
+//! many notes there are. The status says what matters, so nothing is promised of these lines.
 
 use crate::named::Answer;
 use crate::traced::say_trace;
 use diagnostics::{
-    Lines, explain_refusal, explain_section, explain_undriven, explain_words, part, sets_limit,
+    Lines, explain_notes, explain_refusal, explain_section, explain_undriven, explain_words, part,
+    sets_limit,
 };
+use netlist_import::ImportOutcome;
 use scald_base::{Outcome, Refusal, Words};
+use scald_tool::Omissions;
 use section_compose::{SectionsOutcome, explain_broken, list_crossings, piece_of_section};
 use std::io::Eprint;
 
@@ -23,7 +26,9 @@ pub const FORMS: &str = "usage:
     scald chains <DRAWING                              where each fault comes from
     scald sections <DRAWINGS                           verify of drawings with a line ===== between them, each by itself and joined
     scald run T SEED [case=K] <DRAWING                 a run of T ticks that a seed draws, 1 to 4096, as a trace
+    scald vcd T SEED [case=K] [tick=1ns] <DRAWING      the same run as a value change dump, for a wave viewer
     scald judge F <TRACE-AND-DRAWING                   whether the trace is a run, and what breaks in it from tick F on
+    scald import [cells] <NETLIST                      macros of a netlist that yosys wrote as JSON, or of its kinds of cells, to fill in
     scald bench N                                      what is found in a made drawing of N sections, 1 to 200";
 
 /// What is said if memory ran out.
@@ -74,9 +79,11 @@ pub fn say_refusal(rt: &(impl Eprint + AllocGlobal), text: Option<&[u8]>, refusa
     }
 }
 
-/// Says how many nets have neither a driver nor an assertion, if there are some.
-pub fn say_undriven(rt: &(impl Eprint + AllocGlobal), count: u32) {
-    say_lines(rt, &explain_undriven(rt.alloc(), count));
+/// Says how many nets have neither a driver nor an assertion, and how many notes there are, if
+/// there are some.
+pub fn say_omissions(rt: &(impl Eprint + AllocGlobal), omissions: &Omissions) {
+    say_lines(rt, &explain_undriven(rt.alloc(), omissions.undriven));
+    say_lines(rt, &explain_notes(rt.alloc(), omissions.notes));
 }
 
 /// Why an outcome is no answer to the drawing, if there is something to say of all texts.
@@ -107,6 +114,28 @@ fn why_of_sections(outcome: &SectionsOutcome) -> Option<&'static str> {
         | SectionsOutcome::Faulty(_)
         | SectionsOutcome::Refused { .. }
         | SectionsOutcome::BadSection { .. } => None,
+    }
+}
+
+/// The same of an answer to a netlist.
+fn why_of_netlist(outcome: &ImportOutcome) -> Option<&'static str> {
+    match outcome {
+        ImportOutcome::BadWords(_) => Some(FORMS),
+        ImportOutcome::TooLong => Some("scald: the netlist has more than 67108864 bytes"),
+        ImportOutcome::ReadFault => Some(UNREAD),
+        ImportOutcome::WriteFault => Some(UNWRITTEN),
+        ImportOutcome::NoMemory => Some(NO_MEMORY),
+        ImportOutcome::Done | ImportOutcome::Refused(_) => None,
+    }
+}
+
+/// Says why there are no macros, if there are none.
+fn say_netlist(rt: &(impl Eprint + AllocGlobal), words: &Words, outcome: &ImportOutcome) {
+    if let ImportOutcome::BadWords(number) = outcome {
+        say_lines(rt, &explain_words(rt.alloc(), words, *number));
+    }
+    if let Some(why) = why_of_netlist(outcome) {
+        say(rt, why);
     }
 }
 
@@ -181,5 +210,6 @@ pub fn say_answer(
         Answer::Drawing(outcome) => say_outcome(rt, words, text, outcome),
         Answer::Sections(outcome) => say_sections(rt, words, text, outcome),
         Answer::Run(outcome) => say_trace(rt, words, text, outcome),
+        Answer::Netlist(outcome) => say_netlist(rt, words, outcome),
     }
 }

@@ -17,7 +17,7 @@ fn why(outcome: &TraceOutcome) -> Option<&'static str> {
         TraceOutcome::ReadFault => Some(UNREAD),
         TraceOutcome::WriteFault => Some(UNWRITTEN),
         TraceOutcome::NoMemory => Some(NO_MEMORY),
-        TraceOutcome::TooBig => Some("scald: the trace would have more than 4000000 bits"),
+        TraceOutcome::TooBig => Some("scald: the run would have more than 4000000 bits"),
         TraceOutcome::Done
         | TraceOutcome::Broken
         | TraceOutcome::Refused(_)

@@ -9,7 +9,7 @@ use drawing_tree::Drawing;
 use fixpoint_engine::Waves;
 use flat_circuit::Circuit;
 use listing::write_summary;
-use program_call::{Reply, Reporter, reply_to};
+use program_call::{Omissions, Reply, Reporter, reply_to};
 use run_wave::RunWave;
 use scald_base::{Bytes, NoMemory, Outcome};
 use std::alloc::Global;
@@ -23,7 +23,13 @@ pub fn bench(alloc: Global, sections: u16) -> Result<Reply<Outcome>, NoMemory>
     ensures { IfOk result (λ reply. Benched sections reply.outcome reply.bytes) }
 {
     let text = generate(alloc, sections)?;
-    reply_to::<Numbers, RunWave<Value>>(alloc, text.as_slice(), sections, None, &mut 0)
+    reply_to::<Numbers, RunWave<Value>>(
+        alloc,
+        text.as_slice(),
+        sections,
+        None,
+        &mut Omissions::unasked(),
+    )
 }
 
 /// How many sections a drawing has, the round in which its base settled, and how many faults the

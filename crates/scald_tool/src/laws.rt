@@ -7,6 +7,7 @@ ghost use Rattle.scald_tool.specs.Laws.{OneAnswer, ReportsArePromised};
 ghost use Rattle.scald_tool.specs.Promise.{IsAnswered};
 
 use crate::tool::tool_main;
+use program_call::Omissions;
 use scald_base::{CountSink, Outcome, SureSource, Words};
 use std::alloc::Global;
 
@@ -41,5 +42,5 @@ pub fn answers_over_sure_devices(
     ensures finished { AsksWell words.now source.old →
         (result ≡ Outcome.NoMemory) ⊎ IsFinished words.now source.old result None None }
 {
-    tool_main(alloc, words, source, sink, &mut 0)
+    tool_main(alloc, words, source, sink, &mut Omissions::unasked())
 }

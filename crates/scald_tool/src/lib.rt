@@ -24,6 +24,7 @@ mod verifier;
 // beside the call
 pub mod laws;
 
+pub use program_call::Omissions;
 pub use scald_base::{Outcome, Words, status, words_of};
 pub use tool::tool_main;
 pub use verified::verify_text;

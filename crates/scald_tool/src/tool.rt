@@ -11,7 +11,7 @@ ghost use Rattle.timing_analysis.specs.Promise.{FaultlessNeverBreaks, NeverBreak
 ghost use Rattle.scald_tool.specs.Promise.{AreTold, SettlesWithoutLoops, has_report, may_answer, speaks};
 
 use crate::verifier::Verifier;
-use program_call::main_call;
+use program_call::{Omissions, main_call};
 use scald_base::{Outcome, Sink, Source, Words};
 use std::alloc::Global;
 
@@ -23,14 +23,14 @@ use std::alloc::Global;
 /// past 4,194,304, or to its first fault. All of the answer is made before the first byte of it is
 /// written.
 ///
-/// If a report was written, `undriven` is how many nets have neither a driver nor an assertion,
-/// and are set by no case; nothing is proved of it.
+/// If a report was written, `omissions` have what the drawing leaves out, if they are asked for.
+/// Nothing is promised of them.
 pub fn tool_main<S: Source, K: Sink>(
     alloc: Global,
     words: &Words,
     source: &mut S,
     sink: &mut K,
-    undriven: &mut u32,
+    omissions: &mut Omissions,
 ) -> Outcome
     // What every main call promises: of its words, of its devices, and of the bytes that it writes.
     ensures call { IsCall verifier IsPromised words.now result
@@ -58,5 +58,5 @@ pub fn tool_main<S: Source, K: Sink>(
     ensures faultless { IfSome (S.left source.old) (λ text. has_report result ≡ true →
         FaultlessNeverBreaks text) }
 {
-    main_call::<Verifier, S, K>(alloc, words, source, sink, undriven)
+    main_call::<Verifier, S, K>(alloc, words, source, sink, omissions)
 }

@@ -8,7 +8,7 @@ ghost use Rattle.scald_tool.specs.Promise.{IsVerified, has_report, may_give};
 use crate::report::Report;
 use crate::words::Command;
 use listing::Mode;
-use program_call::reply_to;
+use program_call::{Omissions, reply_to};
 use scald_base::{Bytes, Outcome};
 use std::alloc::Global;
 use step_values::Value;
@@ -39,7 +39,7 @@ pub fn verify_text<W: CyclicWave<Item = Value>>(
     ensures loopless { (place round : ℕ) → rounds ≡ None →
         IsLoopless text.now → result ≢ Outcome.Unsettled place round }
 {
-    let reply = match reply_to::<Report, W>(alloc, text, mode, rounds, &mut 0) {
+    let reply = match reply_to::<Report, W>(alloc, text, mode, rounds, &mut Omissions::unasked()) {
         Ok(reply) => reply,
         Err(_) => return Outcome::NoMemory,
     };

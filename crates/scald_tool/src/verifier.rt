@@ -5,7 +5,7 @@ use crate::format::format;
 use crate::report::Report;
 use crate::upgrade::upgrade_text;
 use crate::words::{Command, read_words};
-use program_call::{Program, Reply, reply_to};
+use program_call::{Omissions, Program, Reply, reply_to};
 use run_wave::RunWave;
 use scald_base::{CallEnd, NoMemory, Outcome, Words};
 use std::alloc::Global;
@@ -48,11 +48,11 @@ impl Program for Verifier {
         alloc: Global,
         command: Command,
         text: &[u8],
-        undriven: &mut u32,
+        omissions: &mut Omissions,
     ) -> Result<Reply<Outcome>, NoMemory> {
         match command {
             Command::Verify { mode, rounds } => {
-                reply_to::<Report, RunWave<Value>>(alloc, text, mode, rounds, undriven)
+                reply_to::<Report, RunWave<Value>>(alloc, text, mode, rounds, omissions)
             }
             Command::Format => format(alloc, text),
             Command::Upgrade => upgrade_text(alloc, text),

@@ -2,7 +2,7 @@
 
 use crate::answer::answer;
 use crate::outcome::SectionsOutcome;
-use program_call::{Program, Reply, Request, read_name};
+use program_call::{Omissions, Program, Reply, Request, read_name};
 use scald_base::{CallEnd, NoMemory, Words};
 use std::alloc::Global;
 
@@ -40,7 +40,7 @@ impl Program for Composer {
         alloc: Global,
         _request: Request,
         text: &[u8],
-        _undriven: &mut u32,
+        _omissions: &mut Omissions,
     ) -> Result<Reply<SectionsOutcome>, NoMemory> {
         answer(alloc, text)
     }

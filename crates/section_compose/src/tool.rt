@@ -7,7 +7,7 @@ ghost use Rattle.section_compose.specs.Promise.{IsPromised, NeverBreaksJoined};
 
 use crate::outcome::SectionsOutcome;
 use crate::program::Composer;
-use program_call::main_call;
+use program_call::{Omissions, main_call};
 use scald_base::{Sink, Source, Words};
 use std::alloc::Global;
 
@@ -32,5 +32,5 @@ pub fn sections_main<S: Source, K: Sink>(
     ensures clean { IfSome (S.left source.old) (λ text. result ≡ SectionsOutcome.Clean →
         NeverBreaksJoined text) }
 {
-    main_call::<Composer, S, K>(alloc, words, source, sink, &mut 0)
+    main_call::<Composer, S, K>(alloc, words, source, sink, &mut Omissions::unasked())
 }

@@ -7,6 +7,7 @@ ghost use Rattle.drawing_tree.specs.Tree.{drawing_of};
 ghost use Rattle.drawing_tree.specs.WellFormed.{IsWellFormed};
 ghost use Rattle.drawing_grammar.specs.CanonicalDraws.{TextDraws};
 ghost use Rattle.drawing_grammar.specs.Refused.{IsRefusal};
+ghost use Rattle.macro_expander.specs.Stands.{IsExpansionOf};
 ghost use Rattle.case_analysis.specs.Case.{NetsExist};
 ghost use Rattle.timing_analysis.specs.Drawn.{DrawsBy, DrawsCircuit, IsTextRefused};
 
@@ -14,7 +15,7 @@ use case_analysis::check_cases;
 use drawing_reader::read_drawing;
 use drawing_tree::{CaseStmts, Drawing};
 use flat_circuit::{CaseList, Circuit};
-use macro_expander::expanded;
+use macro_expander::{Expansion, expanded};
 use scald_base::Stop;
 use scald_lex::packed_tokens;
 use std::alloc::Global;
@@ -62,10 +63,10 @@ pub struct Drawn {
     pub cases: CaseList,
 }
 
-/// The circuit of a drawing, with its cases; or `Refused`, if it has no circuit or has a case
-/// that is refused; or `NoMemory`, if memory runs out.
-pub fn circuit_of(alloc: Global, drawing: Drawing) -> Result<Drawn, Stop>
-    requires { IsWellFormed (drawing_of drawing) }
+/// The circuit of a drawing that is expanded so, with its cases; or `Refused`, if it has no circuit
+/// or has a case that is refused; or `NoMemory`, if memory runs out.
+pub fn circuit_of(alloc: Global, drawing: Drawing, expansion: Expansion) -> Result<Drawn, Stop>
+    requires { IsExpansionOf (drawing_of drawing) expansion }
     ensures drawn { IfOk result (λ drawn. (text : List ℕ) → TextDraws text (drawing_of drawing) →
         DrawsBy text (drawing_of drawing) drawn.circuit drawn.cases) }
     ensures exist { IfOk result (λ drawn. All (NetsExist drawn.circuit) drawn.cases) }
@@ -73,10 +74,6 @@ pub fn circuit_of(alloc: Global, drawing: Drawing) -> Result<Drawn, Stop>
     ensures refused { IfErr result (λ stop. (text : List ℕ) (r : Refusal) →
         TextDraws text (drawing_of drawing) → stop ≡ Stop.Refused r → IsTextRefused text r) }
 {
-    let expansion = match expanded(alloc, &drawing) {
-        Ok(expansion) => expansion,
-        Err(stop) => return Err(stop),
-    };
     // The tree of a large drawing takes as much as its circuit: it goes before that is finished.
     let written = written_cases(drawing);
     let circuit = match expansion.finish() {
@@ -101,8 +98,12 @@ pub fn read_circuit(alloc: Global, text: &[u8]) -> Result<Drawn, Stop>
     ensures refused { IfErr result (λ stop. (r : Refusal) → stop ≡ Stop.Refused r →
         IsTextRefused text.now r) }
 {
-    match read_text(alloc, text) {
-        Ok(drawing) => circuit_of(alloc, drawing),
+    let drawing = match read_text(alloc, text) {
+        Ok(drawing) => drawing,
+        Err(stop) => return Err(stop),
+    };
+    match expanded(alloc, &drawing) {
+        Ok(expansion) => circuit_of(alloc, drawing, expansion),
         Err(stop) => Err(stop),
     }
 }

@@ -1,7 +1,7 @@
 use Rattle.std.proofs.Common.{◌∙◌, drop, length, ap, arith}
 use Rattle.drawing_notes.specs.Common.{skew_at}
 use Rattle.drawing_notes.proofs.Raising.{skews_are}
-use Rattle.drawing_notes.proofs.Written.{written_back}
+use Rattle.drawing_omissions.proofs.Written.{written_back}
 use Rattle.drawing_notes.proofs.common.skews.Goals as goal
 
 pub returns : goal.returns

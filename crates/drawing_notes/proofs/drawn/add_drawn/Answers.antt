@@ -3,13 +3,13 @@ use Rattle.std.proofs.lemmas.Result.{on_ok_weaker}
 use Rattle.scald_base.specs.declared.refusal.Place.{Place}
 use Rattle.flat_circuit.specs.declared.case.CaseValue.{CaseValue}
 use Rattle.case_cover.specs.Same.{AreWithin}
-use Rattle.drawing_notes.specs.declared.spread.Finding.{Finding}
-use Rattle.drawing_notes.specs.Lines.{Adds}
-use Rattle.drawing_notes.specs.CaseBits.{case_values}
-use Rattle.drawing_notes.specs.CaseNotes.{case_notes}
-use Rattle.drawing_notes.specs.Drawn.{name_notes}
-use Rattle.drawing_notes.specs.Fors.{empty}
-use Rattle.drawing_notes.specs.Spread.{spread}
+use Rattle.drawing_omissions.specs.declared.spread.Finding.{Finding}
+use Rattle.drawing_omissions.specs.Lines.{Adds}
+use Rattle.drawing_omissions.specs.CaseBits.{case_values}
+use Rattle.drawing_omissions.specs.CaseNotes.{case_notes}
+use Rattle.drawing_omissions.specs.Names.{name_notes}
+use Rattle.drawing_omissions.specs.Fors.{empty}
+use Rattle.drawing_omissions.specs.Spread.{spread}
 use Rattle.drawing_notes.proofs.Drawing.{drawn_added}
 use Rattle.drawing_notes.proofs.drawn.add_drawn.Goals as goal
 

@@ -1,6 +1,6 @@
 use Rattle.std.proofs.Common.{◌≡◌, length, arith}
 use Rattle.drawing_notes.specs.Idle.{idle_at}
-use Rattle.drawing_notes.proofs.Adding.{adds_none, adds_number, adds_numbers}
+use Rattle.drawing_omissions.proofs.Adding.{adds_none, adds_number, adds_numbers}
 use Rattle.drawing_notes.proofs.idle.add_idle.Goals as goal
 
 pub loop-number-init : goal.loop-number-init

@@ -1,7 +1,7 @@
 use Rattle.std.proofs.Common.{◌≡◌, length, arith}
 use Rattle.drawing_notes.specs.Arrivals.{arrival_at}
 use Rattle.drawing_notes.specs.Late.{late_at}
-use Rattle.drawing_notes.proofs.Adding.{adds_none, adds_number, adds_numbers}
+use Rattle.drawing_omissions.proofs.Adding.{adds_none, adds_number, adds_numbers}
 use Rattle.drawing_notes.proofs.late.add_late.Goals as goal
 
 pub loop-number-init : goal.loop-number-init

@@ -2,8 +2,8 @@ use Rattle.std.proofs.Common.{ℕ, slice_get, subst, Option}
 use Rattle.drawing_notes.specs.Arrivals.{arrival_at}
 use Rattle.drawing_notes.specs.Late.{late_on}
 use Rattle.drawing_notes.specs.Pins.{pin_net}
-use Rattle.drawing_notes.specs.Lines.{Adds}
-use Rattle.drawing_notes.proofs.Adding.{adds_number}
+use Rattle.drawing_omissions.specs.Lines.{Adds}
+use Rattle.drawing_omissions.proofs.Adding.{adds_number}
 use Rattle.drawing_notes.proofs.late.add_late_at.Goals as goal
 
 pub loop-place-preserved : goal.loop-place-preserved

@@ -3,7 +3,7 @@ use Rattle.std.specs.List.{flat_map, range_with_len}
 use Rattle.drawing_notes.specs.Arrivals.{arrival_at}
 use Rattle.drawing_notes.specs.Late.{late_on}
 use Rattle.drawing_notes.specs.Pins.{pin_net}
-use Rattle.drawing_notes.specs.Lines.{Adds}
+use Rattle.drawing_omissions.specs.Lines.{Adds}
 use Rattle.drawing_notes.proofs.late.add_late_at.Given as goal
 
 abbrev pub invariant-loop-place : goal.invariant-loop-place

@@ -6,7 +6,7 @@ use Rattle.drawing_notes.specs.declared.launched.Edges.{Edges}
 use Rattle.drawing_notes.specs.Arrivals.{AreSmall, EdgesUpTo, edges_at, made_at, no_edges}
 use Rattle.drawing_notes.proofs.Placing.{inside_order, placed_start, placed_more, placed_end}
 use Rattle.drawing_notes.proofs.Small.{small_more, small_none, small_weaker}
-use Rattle.drawing_notes.proofs.Written.{same_at}
+use Rattle.drawing_omissions.proofs.Written.{same_at}
 use Rattle.drawing_notes.proofs.launched.all_edges.Goals as goal
 
 pub loop-net-init : goal.loop-net-init

@@ -8,8 +8,8 @@ use Rattle.listing.specs.Names.{net_text}
 use Rattle.listing.specs.Text.{line}
 use Rattle.drawing_notes.specs.Loops.{loop_at, loop_line}
 use Rattle.drawing_notes.specs.Parts.{nets_on, part_at, together}
-use Rattle.drawing_notes.specs.Lines.{Lines, Adds}
-use Rattle.drawing_notes.proofs.Adding.{adds_none, adds_number, adds_numbers}
+use Rattle.drawing_omissions.specs.Lines.{Lines, Adds}
+use Rattle.drawing_omissions.proofs.Adding.{adds_none, adds_number, adds_numbers}
 use Rattle.drawing_notes.proofs.Telling.{loop_again, loop_first, loop_none, tells_again, tells_first, tells_none}
 use Rattle.drawing_notes.proofs.loop_notes.add_loops.Goals as goal
 use Rattle.drawing_notes.proofs.loop_notes.add_loops.Goals.{in-Some+then-not-has+in_ok-add, in-Some+else-not-has, in_default}

@@ -3,7 +3,7 @@ use Rattle.std.specs.List.{flat_map, list_any, range_with_len}
 use Rattle.fixpoint_engine.specs.Settled.{marked_in}
 use Rattle.drawing_notes.specs.Loops.{loop_at}
 use Rattle.drawing_notes.specs.Parts.{part_at, same_part, together}
-use Rattle.drawing_notes.specs.Lines.{Adds}
+use Rattle.drawing_omissions.specs.Lines.{Adds}
 use Rattle.drawing_notes.proofs.loop_notes.add_loops.Given as goal
 
 -- the loops of the nets so far are noted, and no other

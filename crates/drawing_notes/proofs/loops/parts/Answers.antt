@@ -4,7 +4,7 @@ use Rattle.std.proofs.lemmas.List.{get_or_past, length-replicate}
 use Rattle.fixpoint_engine.specs.Settled.{marked_in}
 use Rattle.drawing_notes.specs.Parts.{ArePartly, part_at}
 use Rattle.drawing_notes.proofs.Parting.{partly_start, partly_end}
-use Rattle.drawing_notes.proofs.Written.{same_at, written_back}
+use Rattle.drawing_omissions.proofs.Written.{same_at, written_back}
 use Rattle.drawing_notes.proofs.loops.parts.Goals as goal
 
 pub left-init : goal.left-init

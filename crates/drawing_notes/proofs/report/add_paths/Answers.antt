@@ -3,7 +3,7 @@ use Rattle.drawing_notes.specs.declared.launched.Arrival.{Arrival}
 use Rattle.drawing_notes.specs.Arrivals.{AreUpTo, arrival_at}
 use Rattle.drawing_notes.specs.Common.{common, skew_at}
 use Rattle.drawing_notes.specs.Late.{late}
-use Rattle.drawing_notes.specs.Lines.{Adds}
+use Rattle.drawing_omissions.specs.Lines.{Adds}
 use Rattle.drawing_notes.specs.Loops.{loops}
 use Rattle.drawing_notes.specs.Parts.{AreInside, together}
 use Rattle.drawing_notes.proofs.Reporting.{paths_added}

@@ -1,5 +1,5 @@
 use Rattle.std.proofs.Common.{sym, subst, ap, length, ◌∙◌}
-use Rattle.drawing_notes.specs.Lines.{Adds}
+use Rattle.drawing_omissions.specs.Lines.{Adds}
 use Rattle.drawing_notes.specs.Unclocked.{AreActs}
 use Rattle.drawing_notes.specs.Unmarked.{first_at, unmarked_by}
 use Rattle.drawing_notes.proofs.Reporting.{single_added}

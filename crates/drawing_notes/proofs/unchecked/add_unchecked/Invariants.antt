@@ -1,6 +1,6 @@
 use Rattle.std.specs.List.{flat_map, range_with_len}
 use Rattle.drawing_notes.specs.Unchecked.{unchecked_at}
-use Rattle.drawing_notes.specs.Lines.{Adds}
+use Rattle.drawing_omissions.specs.Lines.{Adds}
 use Rattle.drawing_notes.proofs.unchecked.add_unchecked.Given as goal
 
 abbrev pub invariant-loop-number : goal.invariant-loop-number

@@ -1,6 +1,6 @@
 use Rattle.std.proofs.Common.{◌≡◌, ◌<◌, Bool, length, arith, slice_get, subst}
-use Rattle.drawing_notes.specs.Lines.{Adds}
-use Rattle.drawing_notes.proofs.Adding.{adds_none, adds_number, adds_numbers}
+use Rattle.drawing_omissions.specs.Lines.{Adds}
+use Rattle.drawing_omissions.proofs.Adding.{adds_none, adds_number, adds_numbers}
 use Rattle.drawing_notes.specs.Unclocked.{unclocked_at, unclocked_of}
 use Rattle.drawing_notes.proofs.unclocked.add_unclocked.Goals as goal
 

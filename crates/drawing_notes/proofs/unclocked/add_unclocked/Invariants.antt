@@ -1,7 +1,7 @@
 use Rattle.std.proofs.Common.{List}
 use Rattle.std.specs.List.{flat_map, range_with_len}
 use Rattle.timing_analysis.specs.Case.{Case}
-use Rattle.drawing_notes.specs.Lines.{Adds}
+use Rattle.drawing_omissions.specs.Lines.{Adds}
 use Rattle.drawing_notes.specs.Unclocked.{AreActs, unclocked_at}
 use Rattle.drawing_notes.proofs.unclocked.add_unclocked.Given as goal
 

@@ -2,8 +2,8 @@ use Rattle.std.proofs.Common.{sym, subst}
 use Rattle.std.specs.List.{filter}
 use Rattle.std.proofs.lemmas.Result.{on_ok_weaker}
 use Rattle.fixpoint_engine.specs.Waves.{waves_of}
-use Rattle.drawing_notes.specs.Lines.{Adds}
-use Rattle.drawing_notes.proofs.Adding.{adds_none}
+use Rattle.drawing_omissions.specs.Lines.{Adds}
+use Rattle.drawing_omissions.proofs.Adding.{adds_none}
 use Rattle.drawing_notes.specs.Unknown.{has_unknown}
 use Rattle.drawing_notes.proofs.Counting.{none_counted, some_counted}
 use Rattle.drawing_notes.proofs.unknown.add_unknown.Goals as goal

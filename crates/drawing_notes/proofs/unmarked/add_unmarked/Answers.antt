@@ -1,5 +1,5 @@
 use Rattle.std.proofs.Common.{◌≡◌, length, arith}
-use Rattle.drawing_notes.proofs.Adding.{adds_none, adds_number, adds_numbers}
+use Rattle.drawing_omissions.proofs.Adding.{adds_none, adds_number, adds_numbers}
 use Rattle.drawing_notes.specs.Unmarked.{first_at, unmarked_at}
 use Rattle.drawing_notes.proofs.unmarked.add_unmarked.Goals as goal
 

@@ -1,5 +1,5 @@
 use Rattle.std.specs.List.{flat_map, range_with_len}
-use Rattle.drawing_notes.specs.Lines.{Adds}
+use Rattle.drawing_omissions.specs.Lines.{Adds}
 use Rattle.drawing_notes.specs.Unmarked.{first_at, unmarked_at}
 use Rattle.drawing_notes.proofs.unmarked.add_unmarked.Given as goal
 

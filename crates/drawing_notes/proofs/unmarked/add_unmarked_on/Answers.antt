@@ -1,6 +1,6 @@
 use Rattle.std.proofs.Common.{ℕ, sym, subst, Option}
 use Rattle.std.proofs.lemmas.Result.{on_ok_weaker}
-use Rattle.drawing_notes.specs.Lines.{Adds}
+use Rattle.drawing_omissions.specs.Lines.{Adds}
 use Rattle.drawing_notes.specs.Unmarked.{unmarked_line, unmarked_on}
 use Rattle.drawing_notes.proofs.unmarked.add_unmarked_on.Goals as goal
 

@@ -2,9 +2,9 @@ use Rattle.std.proofs.Common.{◌<◌, ℕ, List, length, subst, arith}
 use Rattle.std.specs.List.{flat_map}
 use Rattle.std.proofs.lemmas.List.{take_all}
 use Rattle.flat_circuit.proofs.Numbered.{order_long}
-use Rattle.drawing_notes.specs.Lines.{Adds}
+use Rattle.drawing_omissions.specs.Lines.{Adds}
 use Rattle.drawing_notes.specs.Unread.{unread_at}
-use Rattle.drawing_notes.proofs.Adding.{adds_item}
+use Rattle.drawing_omissions.proofs.Adding.{adds_item}
 use Rattle.drawing_notes.proofs.unread.add_unread.Goals as goal
 
 pub loop-place-preserved : goal.loop-place-preserved

@@ -1,11 +1,17 @@
-use Rattle.std.proofs.Common.{◌∙◌, ap, sym}
+use Rattle.std.proofs.Common.{◌∙◌, ap, subst, sym}
 use Rattle.drawing_tree.specs.Tree.{drawing_of}
-use Rattle.timing_analysis.specs.Drawn.{undrawn}
+use Rattle.macro_expander.specs.Stands.{IsStopOf}
+use Rattle.timing_analysis.specs.Drawn.{undrawn, unexpanded}
 use Rattle.program_call.proofs.Replies.{subject_drawn}
 use Rattle.program_call.proofs.text_reply.read.Goals as goal
 
 pub returns-in-Err-clause-refused : goal.returns-in-Err-clause-refused
 returns-in-Err-clause-refused g c r e = undrawn (c.in-Err.ensures.refused r e)
+
+pub returns-in-Err-expanded-clause-refused : goal.returns-in-Err-expanded-clause-refused
+returns-in-Err-expanded-clause-refused g c r e =
+    let d = drawing_of c.in-Ok.drawing in
+    unexpanded d c.in-Ok.ensures.drawn (subst (IsStopOf d) e c.in-Err-expanded.ensures)
 
 pub returns-in-Err-circuit_of-clause-refused : goal.returns-in-Err-circuit_of-clause-refused
 returns-in-Err-circuit_of-clause-refused g c r e =

@@ -7,21 +7,16 @@ use Rattle.timing_analysis.proofs.drawn.circuit_of.Goals as goal
 
 pub returns-in-Err-clause-refused : goal.returns-in-Err-clause-refused
 returns-in-Err-clause-refused c text r draws e =
-    expansion_refusal text (drawing_of c.args.drawing) c.in-Err.stop r draws c.in-Err.ensures e
-
-pub returns-in-Err-finish-clause-refused : goal.returns-in-Err-finish-clause-refused
-returns-in-Err-finish-clause-refused c text r draws e =
     let d = drawing_of c.args.drawing in
-    expansion_refusal text d c.in-Err-finish.stop r draws
-    (c.in-Err-finish.ensures d c.in-Ok.ensures) e
+    expansion_refusal text d c.in-Err.stop r draws (c.in-Err.ensures d c.requires) e
 
 pub returns-clause-refused : goal.returns-clause-refused
 returns-clause-refused c text r draws e =
     let d = drawing_of c.args.drawing in
-    cases_refusal text d c.in-Ok-finish.circuit
+    cases_refusal text d c.in-Ok.circuit
     (record {
       drawn = draws;
-      circuit = c.in-Ok-finish.ensures d c.in-Ok.ensures;
+      circuit = c.in-Ok.ensures d c.requires;
       is_circuit =
           c.known.ensures;
     })
@@ -31,7 +26,7 @@ returns-clause-refused c text r draws e =
 pub returns-in-Ok-check_cases-clause-drawn : goal.returns-in-Ok-check_cases-clause-drawn
 returns-in-Ok-check_cases-clause-drawn c text draws =
     let d = drawing_of c.args.drawing in
-    let circuit : IsCircuitOf d c.in-Ok-finish.circuit = c.in-Ok-finish.ensures d c.in-Ok.ensures in
+    let circuit : IsCircuitOf d c.in-Ok.circuit = c.in-Ok.ensures d c.requires in
     let cases = rw c.written_cases-written.ensures at c.in-Ok-check_cases.ensures.is in
     record {
       draws = record {

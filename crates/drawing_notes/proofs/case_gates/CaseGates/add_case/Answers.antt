@@ -2,7 +2,7 @@ use Rattle.std.proofs.Common.{◌≡◌, ◌∙◌, drop, length, refl, ap, arit
 use Rattle.std.specs.Vec.{with_items}
 use Rattle.drawing_notes.specs.declared.case_gates.CaseGates.{CaseGates}
 use Rattle.drawing_notes.proofs.Gathering.{gates_more}
-use Rattle.drawing_notes.proofs.Written.{written_back}
+use Rattle.drawing_omissions.proofs.Written.{written_back}
 use Rattle.drawing_notes.proofs.case_gates.CaseGates.add_case.Goals as goal
 
 pub add_firsts-requires-clause-long : goal.add_firsts-requires-clause-long

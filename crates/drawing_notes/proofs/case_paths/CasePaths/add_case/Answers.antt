@@ -13,7 +13,7 @@ use Rattle.drawing_notes.specs.Seen.{Sees}
 use Rattle.drawing_notes.specs.SoFar.{IsOrder, looped_in}
 use Rattle.drawing_notes.proofs.Deciding.{launched_in, launched_tells}
 use Rattle.drawing_notes.proofs.Gathering.{paths_more}
-use Rattle.drawing_notes.proofs.Written.{written_back}
+use Rattle.drawing_omissions.proofs.Written.{written_back}
 use Rattle.drawing_notes.proofs.case_paths.CasePaths.add_case.Goals as goal
 
 pub raise_latest-requires-clause-sees : goal.raise_latest-requires-clause-sees

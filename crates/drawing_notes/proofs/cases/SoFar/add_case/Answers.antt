@@ -1,7 +1,7 @@
 use Rattle.std.proofs.Common.{drop, length, arith}
 use Rattle.std.specs.Vec.{with_items}
 use Rattle.std.proofs.lemmas.Result.{on_ok_weaker}
-use Rattle.drawing_notes.proofs.Written.{written_back}
+use Rattle.drawing_omissions.proofs.Written.{written_back}
 use Rattle.drawing_notes.specs.declared.cases.SoFar.{SoFar}
 use Rattle.drawing_notes.proofs.Gathering.{case_more}
 use Rattle.drawing_notes.proofs.cases.SoFar.add_case.Goals as goal

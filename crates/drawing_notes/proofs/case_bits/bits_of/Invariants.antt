@@ -1,6 +1,0 @@
-use Rattle.std.proofs.Common.{◌≡◌, map, take}
-use Rattle.drawing_notes.specs.CaseBits.{bit_of}
-use Rattle.drawing_notes.proofs.case_bits.bits_of.Given as goal
-
-abbrev pub invariant-loop-entry : goal.invariant-loop-entry
-invariant-loop-entry l = l.bits ≡ map bit_of (take l.entry-index l.case.entries)

@@ -1,6 +1,0 @@
-use Rattle.std.proofs.Common.{◌≡◌, take}
-use Rattle.drawing_notes.specs.CaseBits.{case_values}
-use Rattle.drawing_notes.proofs.case_bits.case_values.Given as goal
-
-abbrev pub invariant-loop-bits : goal.invariant-loop-bits
-invariant-loop-bits l = l.values ≡ case_values l.c (take l.bits-index l.cases)

@@ -1,8 +1,0 @@
-use Rattle.std.proofs.Common.{take}
-use Rattle.std.specs.List.{flat_map}
-use Rattle.drawing_notes.specs.Lines.{Adds}
-use Rattle.drawing_notes.specs.Fors.{empty_at}
-use Rattle.drawing_notes.proofs.fors.add_empty.Given as goal
-
-abbrev pub invariant-loop-place : goal.invariant-loop-place
-invariant-loop-place l = Adds l.fn.notes l.notes (flat_map (empty_at l.found) (take l.place-index l.places))

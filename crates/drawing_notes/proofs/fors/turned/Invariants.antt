@@ -1,6 +1,0 @@
-use Rattle.std.proofs.Common.{take}
-use Rattle.drawing_notes.specs.Fors.{AreWhere, is_turned}
-use Rattle.drawing_notes.proofs.fors.turned.Given as goal
-
-abbrev pub invariant-loop-finding : goal.invariant-loop-finding
-invariant-loop-finding l = AreWhere is_turned (take l.finding-index l.found) l.spots.keys

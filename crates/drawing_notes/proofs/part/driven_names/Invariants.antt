@@ -1,6 +1,0 @@
-use Rattle.std.proofs.Common.{take}
-use Rattle.drawing_notes.specs.Part.{AreDriven}
-use Rattle.drawing_notes.proofs.part.driven_names.Given as goal
-
-abbrev pub invariant-loop-number : goal.invariant-loop-number
-invariant-loop-number l = AreDriven (take l.number l.c.nets) l.names.keys

@@ -1,6 +1,0 @@
-use Rattle.std.proofs.Common.{take}
-use Rattle.drawing_notes.specs.Spread.{AreNames}
-use Rattle.drawing_notes.proofs.spread_notes.with_other_bits.Given as goal
-
-abbrev pub invariant-loop-number : goal.invariant-loop-number
-invariant-loop-number l = AreNames (take l.number l.c.nets) l.names.keys

@@ -1,0 +1,13 @@
+pub mod Lines
+pub mod Read
+pub mod Loose
+pub mod Part
+pub mod Near
+pub mod Names
+pub mod CaseBits
+pub mod CaseNotes
+pub mod Widths
+pub mod Spreads
+pub mod Walk
+pub mod Spread
+pub mod Fors

@@ -1,0 +1,47 @@
+//! What a drawing leaves out, as far as its tree, its circuit and its cases tell it without waves:
+//! names that nothing determines, names that are spread, FORs that have no turn, and cases.
+//!
+//! Each kind of note has a file of `specs/` that says which notes of it there are, in the words of
+//! its line, and a call that appends exactly its lines to [`Notes`] and counts them: [`add_names`]
+//! (PART and NEAR), [`add_spread`], [`add_empty`] and [`add_cases`]. `drawing_notes` writes them
+//! between its own. [`spreads`] goes down the statements as the expansion does, and finds the names
+//! that are spread and the FORs that are reached (`specs/Spreads`, `specs/Widths`);
+//! [`case_values`] has what the cases give to nets (`specs/CaseBits`).
+//!
+//! [`Omissions`] are numbers of what is left out, for the line that stands beside a verdict.
+#![tactic(auto)]
+
+// lines
+mod notes;
+
+// names that nothing determines, and cases
+mod case_bits;
+mod case_notes;
+mod loose;
+mod names;
+mod near;
+mod part;
+mod read;
+
+// what is found while a drawing is expanded
+mod body;
+mod fors;
+mod spread;
+mod spread_notes;
+mod walk;
+mod width;
+
+// numbers alone
+mod omissions;
+
+pub use case_bits::{CaseBit, CaseBits, case_values, written_cases};
+pub use case_notes::add_cases;
+pub use fors::{add_empty, for_places};
+pub use names::add_names;
+pub use near::Near;
+pub use notes::Notes;
+pub use omissions::Omissions;
+pub use read::read_nets;
+pub use spread::{Finding, Findings, Reached, Spread};
+pub use spread_notes::add_spread;
+pub use walk::spreads;
