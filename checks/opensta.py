@@ -1,220 +1,180 @@
 #!/usr/bin/env python3
-"""Compares the margins of imported designs with the slacks that OpenSTA finds in the same netlists.
+"""Compares the margins of imported netlists with OpenSTA's slacks (checks/opensta.sh calls it, with the program).
 
-Usage: checks/opensta.py PROGRAM [VERILOG TOP CLOCK PERIOD]
-Without a design: 20 random ones. The DES cipher that Debian's package iverilog has as an example:
-    checks/opensta.py PROGRAM /usr/share/doc/iverilog/examples/des.v des clk 800
-
-Prints a line for each design, and a line `FAILED WHY` for each difference. A setup margin has to be the slack, and a
-hold margin one less, since a change exactly HOLD ticks after the edge is a break here. Needs yosys and OpenSTA (the
-packages yosys and opensta of Debian). The cells have the delays and limits of examples/yosys/header.scald.
+Prints a line `tried NAME` for each margin, a line `FAILED WHY` for each difference, and a line for each design. A
+setup margin has to be the slack, and a hold margin one less, since a change exactly HOLD ticks after the edge is a
+break here. OpenSTA has the delays and limits of examples/yosys/header.scald, and of a flip-flop with an enable or a
+reset what cells.scald has: gates of no delay before a flip-flop. In each drawing the clock is high from 0 to 4, and
+the inputs change between 1 and 2.
 """
+import itertools
 import json
-import os
+import pathlib
 import random
 import re
 import subprocess
 import sys
 import tempfile
 
-sys.dont_write_bytecode = True
-from netlists import Designs
+EXAMPLES = pathlib.Path(__file__).resolve().parent.parent / "examples" / "yosys"
+CONSTANTS = dict(re.findall(r"CONST (\w+) = (\d+);", (EXAMPLES / "header.scald").read_text()))
+DES = pathlib.Path("/usr/share/doc/iverilog/examples/des.v")
 
-FOLDER = os.path.join(os.path.dirname(os.path.dirname(os.path.abspath(__file__))), "examples", "yosys")
-
-# --- the same cells for both: for OpenSTA under names that it takes, with their inputs and functions
-
+# The cells of OpenSTA: inputs, function, and what the constants of their delays begin with, if they have any.
 GATES = {
-    "NOT": ("A", "!A"),
-    "AND": ("AB", "A B"),
-    "OR": ("AB", "A+B"),
-    "XOR": ("AB", "A^B"),
-    "MUX": ("ABS", "(A !S)+(B S)"),
+    "NOT": ("A", "!A", "GATE"),
+    "AND": ("AB", "A B", "GATE"),
+    "OR": ("AB", "A+B", "GATE"),
+    "XOR": ("AB", "A^B", "WIDE"),
+    "MUX": ("ABS", "(A !S)+(B S)", "WIDE"),
+    "ENABLE": ("QDE", "(Q !E)+(D E)", ""),
+    "RESET": ("DR", "D !R", ""),
 }
-WIDE = ("XOR", "MUX")
-
-
-def constants():
-    """The delays and limits of the header, by name."""
-    with open(os.path.join(FOLDER, "header.scald")) as file:
-        return {name: int(value) for name, value in re.findall(r"CONST (\w+) = (\d+);", file.read())}
+FLOPS = [
+    ("$_%sDFF%s_%s%s%s_" % ("S" * reset, "E" * enable, edge, "P0" * reset, "P" * enable), edge, enable, reset)
+    for edge, enable, reset in itertools.product("PN", (False, True), (False, True))
+]
 
 
 def renaming():
-    """What yosys renames the cells by, as a library of modules."""
-    lines = [
-        "module \\$_%s_ (input %s, output Y); %s1 _TECHMAP_REPLACE_ (%s, .Y(Y)); endmodule"
-        % (name, ", ".join(ports), name, ", ".join(".%s(%s)" % (port, port) for port in ports))
-        for name, (ports, _) in GATES.items()
-    ]
-    lines.append("module \\$_DFF_P_ (input C, D, output Q); DFF1 _TECHMAP_REPLACE_ (.C(C), .D(D), .Q(Q)); endmodule")
-    return "\n".join(lines) + "\n"
+    """What yosys makes these cells by, as a library of modules."""
+    for name, (pins, _, delays) in GATES.items():
+        if delays:
+            joined = ", ".join(".%s(%s)" % (pin, pin) for pin in pins + "Y")
+            yield "module \\$_%s_ (input %s, output Y);" % (name, ", ".join(pins))
+            yield "%s _TECHMAP_REPLACE_ (%s); endmodule" % (name, joined)
+    for name, edge, enable, reset in FLOPS:
+        yield "module \\%s (input C, D%s%s, output Q); wire N, M;" % (name, ", E" * enable, ", R" * reset)
+        yield "ENABLE e (.Q(Q), .D(D), .E(E), .Y(N));" if enable else "assign N = D;"
+        yield "RESET r (.D(N), .R(R), .Y(M));" if reset else "assign M = N;"
+        yield "FLOP%s _TECHMAP_REPLACE_ (.C(C), .D(M), .Q(Q)); endmodule" % edge
 
 
-def takes(related, delay, kind=""):
-    """How long an output takes after this input."""
-    return (
-        'timing () { related_pin : "%s"; %s cell_rise (scalar) { values ("%d"); } cell_fall (scalar) { values ("%d"); }'
-        ' rise_transition (scalar) { values ("0"); } fall_transition (scalar) { values ("0"); } }'
-        % (related, kind, delay, delay)
-    )
+def timing(pin, kind, rise, fall):
+    form = 'timing () { related_pin : "%s"; timing_type : %s; intrinsic_rise : %s; intrinsic_fall : %s; }'
+    return form % (pin, kind, rise, fall)
 
 
-def limited(kind, ticks):
-    """How long the input of a flip-flop has to be stable."""
-    return (
-        'timing () { related_pin : "C"; timing_type : %s; rise_constraint (scalar) { values ("%d"); }'
-        ' fall_constraint (scalar) { values ("%d"); } }' % (kind, ticks, ticks)
-    )
+def liberty(is_slow):
+    """The cells with their greatest delays, or with their least."""
+    yield "library (cells_%d) { delay_model : generic_cmos;" % is_slow
+    levels = {"input": 50, "output": 50, "slew_lower": 20, "slew_upper": 80}
+    for level, edge in itertools.product(levels, ("rise", "fall")):
+        yield "%s_threshold_pct_%s : %d;" % (level, edge, levels[level])
+    pin = "pin (%s) { direction : input; capacitance : 0; %s }"
+    for name, (pins, function, delays) in GATES.items():
+        ends = ("_RISE", "_FALL") if is_slow else ("_LEAST", "_LEAST")
+        rise, fall = (CONSTANTS[delays + end] if delays else 0 for end in ends)
+        yield "cell (%s) { %s" % (name, " ".join(pin % (each, "") for each in pins))
+        yield 'pin (Y) { direction : output; function : "%s";' % function
+        yield " ".join(timing(each, "combinational", rise, fall) for each in pins) + " } }"
+    delay, setup, hold = (CONSTANTS["FLOP_" + end] for end in ("MOST" if is_slow else "LEAST", "SETUP", "HOLD"))
+    for edge, word, clock in (("P", "rising", "C"), ("N", "falling", "!C")):
+        yield 'cell (FLOP%s) { ff (IQ, IQN) { clocked_on : "%s"; next_state : "D"; }' % (edge, clock)
+        limits = timing("C", "setup_" + word, setup, setup) + timing("C", "hold_" + word, hold, hold)
+        yield pin % ("C", "") + pin % ("D", limits) + 'pin (Q) { direction : output; function : "IQ";'
+        yield timing("C", word + "_edge", delay, delay) + " } }"
+    yield "}"
 
 
-def liberty(bound):
-    """The cells with their least delays, or with their greatest, where the bound is 0 or 1."""
-    of = constants()
-    gate, wide, flop = (
-        (of["GATE_LEAST"], of["WIDE_LEAST"], of["FLOP_LEAST"]),
-        (of["GATE_RISE"], of["WIDE_RISE"], of["FLOP_MOST"]),
-    )[bound]
-    levels = " ".join(
-        "%s_threshold_pct_%s : %d;" % (what, edge, percent)
-        for what, percent in (("input", 50), ("output", 50), ("slew_lower", 20), ("slew_upper", 80))
-        for edge in ("rise", "fall")
-    )
-    text = (
-        'library (cells_%d) { delay_model : table_lookup; time_unit : "1ns"; voltage_unit : "1V"; current_unit : "1mA";'
-        ' pulling_resistance_unit : "1kohm"; capacitive_load_unit (1, pf); nom_voltage : 1; nom_temperature : 25;'
-        " nom_process : 1; %s\n" % (bound, levels)
-    )
-    for name, (ports, function) in GATES.items():
-        pins = " ".join("pin (%s) { direction : input; capacitance : 0; }" % port for port in ports)
-        after = " ".join(takes(port, wide if name in WIDE else gate) for port in ports)
-        text += 'cell (%s1) { area : 1; %s pin (Y) { direction : output; function : "%s"; %s } }\n' % (
-            name, pins, function, after,
-        )
-    data = limited("setup_rising", of["FLOP_SETUP"]) + limited("hold_rising", of["FLOP_HOLD"])
-    return text + (
-        'cell (DFF1) { area : 1; ff (IQ, IQN) { clocked_on : "C"; next_state : "D"; }'
-        " pin (C) { direction : input; clock : true; capacitance : 0; }"
-        " pin (D) { direction : input; capacitance : 0; %s }"
-        ' pin (Q) { direction : output; function : "IQ"; %s } }\n}\n'
-        % (data, takes("C", flop, "timing_type : rising_edge;"))
-    )
+def write(folder, name, lines):
+    pathlib.Path(folder, name).write_text("\n".join(lines) + "\n")
 
 
-# --- a design
+def call(folder, *command, text=""):
+    return subprocess.run(command, input=text, cwd=folder, check=True, capture_output=True, text=True).stdout
 
 
-def write(folder, name, text):
-    with open(os.path.join(folder, name), "w") as file:
-        file.write(text)
-
-
-def mapped(folder, verilog, top):
-    """Maps a design: its module as JSON, for import; and beside it as Verilog, with cells of the same names."""
+def slacks(folder, top, module, unit):
+    """The slacks of setup and of hold, by the labels that import gives to the flip-flops."""
+    number = itertools.count()
+    cells = {"c%d" % next(number) if cell["hide_name"] else name: cell for name, cell in module["cells"].items()}
+    write(folder, "net.json", [json.dumps({"modules": {top: {**module, "cells": cells}}})])
     write(folder, "cells.v", renaming())
-    commands = (
-        "read_verilog %s; synth -flatten -top %s; dfflegalize -cell $_DFF_P_ x; abc -g AND,OR,XOR,MUX; opt_clean;"
-        " rename -enumerate -pattern u%% c:*; write_json net.json; techmap -map cells.v; opt_clean;"
-        " write_verilog -noattr -noexpr -simple-lhs net.v" % (os.path.abspath(verilog), top)
-    )
-    subprocess.run(["yosys", "-q", "-p", commands], cwd=folder, check=True, capture_output=True)
-    with open(os.path.join(folder, "net.json")) as file:
-        return json.load(file)["modules"][top]
+    yosys = "read_json net.json; techmap -map cells.v; opt_clean; write_verilog -noattr -noexpr -simple-lhs net.v"
+    call(folder, "yosys", "-q", "-p", yosys)
+    write(folder, "slow.lib", liberty(True))
+    write(folder, "fast.lib", liberty(False))
+    lines = ["define_corners slow fast", "read_liberty -corner slow slow.lib", "read_liberty -corner fast fast.lib"]
+    lines += ["read_verilog net.v", "link_design " + top, "create_clock -name clk -period %d clk" % (8 * unit)]
+    inputs = " ".join(name for name, port in module["ports"].items() if port["direction"] == "input" and name != "clk")
+    report = "report_checks -format end -group_count 99999 -path_delay %s -corner %s > %s"
+    for limit, corner, delay, name in (("max", "slow", 2 * unit, "SETUP"), ("min", "fast", unit, "HOLD")):
+        lines.append("set_input_delay -clock clk -%s %d [get_ports {%s}]" % (limit, delay, inputs))
+        lines.append(report % (limit, corner, name))
+    write(folder, "run.tcl", lines)
+    call(folder, "sta", "-exit", "run.tcl")
+    row = re.compile(r"(?m)^(\S+)/D \(FLOP.\) +\S+ +\S+ +(-?[\d.]+) ")
+    found = {limit: row.findall(pathlib.Path(folder, limit).read_text()) for limit in ("SETUP", "HOLD")}
+    return {(flop, limit): float(slack) for limit in found for flop, slack in found[limit]}
 
 
-def slacks(folder, top, clock, period):
-    """The slacks of setup and of hold, by the names of flip-flops."""
-    for bound in (0, 1):
-        write(folder, "cells_%d.lib" % bound, liberty(bound))
-    reports = "\n".join(
-        "report_checks -path_delay %s -corner %s -format end -group_count 99999 > %s.txt" % row
-        for row in (("max", "slow", "SETUP"), ("min", "fast", "HOLD"))
-    )
-    write(
-        folder,
-        "run.tcl",
-        "define_corners slow fast\nread_liberty -corner slow cells_1.lib\nread_liberty -corner fast cells_0.lib\n"
-        "read_verilog net.v\nlink_design %s\ncreate_clock -name clk -period %d [get_ports %s]\n%s\nexit\n"
-        % (top, period, clock, reports),
-    )
-    subprocess.run(["sta", "-exit", "run.tcl"], cwd=folder, check=True, capture_output=True)
-    found = {}
-    for limit in ("SETUP", "HOLD"):
-        with open(os.path.join(folder, limit + ".txt")) as file:
-            rows = re.findall(r"(?m)^(\S+)/D \(DFF1\) +\S+ +\S+ +(-?[\d.]+) ", file.read())
-        found[limit] = {name: float(slack) for name, slack in rows}
-    return found
+def margins(program, netlist, drawn, unit):
+    """The margins of setup and of hold, by the labels of flip-flops; those that nothing limits are left out."""
+    header, cells = ((EXAMPLES / name).read_text() for name in ("header.scald", "cells.scald"))
+    header = re.sub(r"(?m)^CLOCK .*", "CLOCK 8 x %d;" % unit, header)
+    macros = call(".", program, "import", text=netlist)
+    rows = call(".", program, "margins", text=header + cells + macros + drawn)
+    found = re.findall(r"(?m)^MARGIN u/(\w+)/s<0> (SETUP|HOLD) (\S+) NEXT ", rows)
+    return {(flop, limit): int(margin) for flop, limit, margin in found}
 
 
-def connection(base, width):
-    return '"%s"%s' % (base, "<%d:0>" % (width - 1) if width > 1 else "")
-
-
-def drawing(program, folder, module, top, clock, period):
-    """The imported design in a drawing whose inputs never change, but for the clock."""
-    with open(os.path.join(folder, "net.json")) as file:
-        macros = subprocess.run([program, "import"], stdin=file, capture_output=True, text=True, check=True).stdout
-    ports = {"input": [], "output": []}
-    for name, port in module["ports"].items():
-        base = "CK .P0-4" if name == clock else "PORT %d%s" % (
-            len(ports["input"] + ports["output"]), " .S" if port["direction"] == "input" else "",
-        )
-        ports[port["direction"]].append(connection(base, len(port["bits"])))
-    parts = []
-    for name in ("header.scald", "cells.scald"):
-        with open(os.path.join(FOLDER, name)) as file:
-            parts.append(re.sub(r"(?m)^CLOCK .*", "CLOCK 8 x %d;" % (period // 8), file.read()))
-    use = "  u : %s (%s) -> (%s);" % (top, ", ".join(ports["input"]), ", ".join(ports["output"]))
-    return "".join(parts) + macros + "DRAWING TRIED;\n%s\nEND;\n" % use
-
-
-def margins(program, text):
-    """The margins of setup and of hold, by the names of flip-flops; those that nothing limits are left out."""
-    said = subprocess.run([program, "margins"], input=text, capture_output=True, text=True, check=True).stdout
-    found = {"SETUP": {}, "HOLD": {}}
-    for name, limit, margin in re.findall(r"(?m)^MARGIN u/(\w+)/s<0> (SETUP|HOLD) (\S+) NEXT ", said):
-        found[limit][name] = int(margin)
-    return found
-
-
-def compare(program, name, verilog, top, clock, period):
+def compare(program, name, netlist, unit, drawn):
+    (top, module), = json.loads(netlist)["modules"].items()
     with tempfile.TemporaryDirectory() as folder:
-        module = mapped(folder, verilog, top)
-        slack = slacks(folder, top, clock, period)
-        margin = margins(program, drawing(program, folder, module, top, clock, period))
-    for limit, less in (("SETUP", 0), ("HOLD", 1)):
-        for flop in sorted(set(slack[limit]) | set(margin[limit])):
-            one, other = slack[limit].get(flop), margin[limit].get(flop)
-            if one is None or other is None or other != one - less:
-                print("FAILED %s: %s of %s: slack %s, margin %s" % (name, limit, flop, one, other))
-    print("%s: %d cells, %d setup and %d hold margins"
-          % (name, len(module["cells"]), len(margin["SETUP"]), len(margin["HOLD"])))
+        slack = slacks(folder, top, module, unit)
+    margin = margins(program, netlist, drawn, unit)
+    for flop, limit in sorted({*slack, *margin}):
+        print("tried %s: %s of %s" % (name, limit, flop))
+        one, other = slack.get((flop, limit)), margin.get((flop, limit))
+        if one is None or other is None or other != one - (limit == "HOLD"):
+            print("FAILED %s: %s of %s: slack %s, margin %s" % (name, limit, flop, one, other))
+    print("%s: %d cells, %d margins" % (name, len(module["cells"]), len(margin)), flush=True)
 
 
-# --- random designs
+TRIED = "DRAWING TRIED; u : %s; END;\n"
+DATAPATH = 'm ("CLK .P0-4", "RESET .S2-1", "ENABLE .S2-1", "A .S2-1"<{0}:0>, "B .S2-1"<{0}:0>) -> ("Y"<{0}:0>)'
+CIPHER = 'des ("PT .S2-1"<63:0>, "KEY .S2-1"<63:0>, "CLK .P0-4") -> ("CT"<63:0>)'
+STEPS = ["({0} + {1})", "({0} - {1})", "({0} & {1} | {2})", "({0} ^ {1})", "({1} < {2} ? {0} : {1})", "(~{0} | {1})"]
+TAKES = ["{0} <= {1}", "if (enable) {0} <= {1}", "if (reset) {0} <= 0; else {0} <= {1}",
+         "if (reset) {0} <= 0; else if (enable) {0} <= {1}"]
 
 
-def pipeline(source):
-    """Four registers of a byte, each of which takes something made of all of them."""
-    names = ["r%d" % number for number in range(4)]
-    taken = [Designs(source).expression(names + ["a"], 4) for _ in names]
-    lines = ["  reg [7:0] %s;\n  always @(posedge clk) %s <= %s;\n" % (name, name, next_) for name, next_ in zip(names, taken)]
-    return (
-        "module m(input clk, input [7:0] a, output [7:0] y, output [7:0] z);\n%s"
-        "  assign y = r0 ^ r1;\n  assign z = r2 + r3;\nendmodule\n" % "".join(lines)
-    )
+def datapath(source, width, depth):
+    """Verilog of four registers of this width, each of which takes something made in so many steps of all of them."""
+    names = ["a", "b", "r0", "r1", "r2", "r3"]
+    bits = "[%d:0]" % (width - 1)
+    yield "module m(input clk, input reset, input enable, input %s a, input %s b, output %s y);" % (bits, bits, bits)
+    for name in names[2:]:
+        value = name
+        for _ in range(depth):
+            value = source.choice(STEPS).format(value, *source.sample(names, 2))
+        edge = source.choice(("posedge", "posedge", "negedge"))
+        yield "reg %s %s; always @(%s clk) %s;" % (bits, name, edge, source.choice(TAKES).format(name, value))
+    yield "assign y = r0 ^ r1 ^ r2 ^ r3; endmodule"
+
+
+def mapped(lines, top):
+    """The netlist that yosys makes of the Verilog, flat and of these cells, as JSON."""
+    flops = " ".join("-cell %s x" % name for name, *_ in FLOPS)
+    yosys = "read_verilog m.v; synth -flatten -top %s; dfflegalize %s; abc -g AND,OR,XOR,MUX; opt_clean; write_json out"
+    with tempfile.TemporaryDirectory() as folder:
+        write(folder, "m.v", lines)
+        call(folder, "yosys", "-q", "-p", yosys % (top, flops))
+        return pathlib.Path(folder, "out").read_text()
 
 
 def main():
-    if len(sys.argv) == 6:
-        program, verilog, top, clock, period = sys.argv[1:]
-        compare(program, top, verilog, top, clock, int(period))
-        return
-    for number in range(20):
-        with tempfile.NamedTemporaryFile("w", suffix=".v") as file:
-            file.write(pipeline(random.Random(number)))
-            file.flush()
-            compare(sys.argv[1], "design %d" % number, file.name, "m", "clk", 400)
+    for name in ("counter", "fifo"):
+        netlist, drawn = ((EXAMPLES / (name + end)).read_text() for end in (".json", ".top"))
+        compare(sys.argv[1], name, netlist, 25, drawn)
+    for number, (width, depth) in enumerate(itertools.product((1, 4, 8, 16), (1, 2, 4, 8))):
+        netlist = mapped(datapath(random.Random(number), width, depth), "m")
+        compare(sys.argv[1], "width %d, depth %d" % (width, depth), netlist, 200, TRIED % DATAPATH.format(width - 1))
+    if DES.exists():
+        compare(sys.argv[1], "des", mapped([DES.read_text()], "des"), 100, TRIED % CIPHER)
+    else:
+        print("des: skipped, there is no %s" % DES)
 
 
 if __name__ == "__main__":
