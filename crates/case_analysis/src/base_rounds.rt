@@ -15,7 +15,7 @@ ghost use Rattle.case_analysis.specs.Base.{AreAssertedAlike, IsBase, PermitInput
 
 use crate::parts::{instance_of, net_of};
 use fixpoint_engine::{
-    EngineEnd, NetClasses, NetSet, Numbers, Settled, Store, constant_numbers, settle,
+    EngineEnd, NetClasses, NetSet, Numbers, Settled, Start, Store, constant_numbers, settle,
 };
 use flat_circuit::{CaseList, Circuit, Net, is_same_assertion};
 use pin_waves::interface_wave;
@@ -159,11 +159,12 @@ pub fn base<W: CyclicWave<Item = Value>>(
     c.known();
     c.header().known();
     let constants = constant_numbers(alloc, c.header(), store)?;
-    let start = start_numbers(alloc, c, store)?;
+    let numbers = start_numbers(alloc, c, store)?;
     let active = driven_nets(alloc, c)?;
-    let nets = classes.nets.as_ref();
-    let hearers = &classes.hearers;
-    settle(
-        alloc, c, store, constants, nets, hearers, &start, &active, limit,
-    )
+    let start = Start {
+        numbers,
+        constants,
+        active,
+    };
+    settle(alloc, c, store, &start, classes, limit)
 }

@@ -1,7 +1,6 @@
 //! The rounds of a case.
 
 ghost use Rattle.std.specs.Prelude.{◌≡◌, ◌≤◌, ◌+◌, ◌<◌, ℕ, Bool, List, IfErr, IfOk, IfSome, MatchResult, [], length};
-ghost use Rattle.std.specs.Option.{option_copied};
 ghost use Rattle.flat_circuit.specs.Instances.{outputs};
 ghost use Rattle.step_values.specs.declared.value.Value.{Value as OfValues};
 ghost use Rattle.skew_algebra.specs.Wave.{Wave};
@@ -22,13 +21,24 @@ use crate::base_rounds::unknown_wave;
 use crate::parts::case_at;
 use crate::reached::{Reached, own_reach};
 use fixpoint_engine::{
-    Constants, EngineEnd, NetClasses, NetSet, Numbers, Settled, Store, constant_numbers, settle,
+    Constants, EngineEnd, NetClasses, NetSet, Numbers, Settled, Start, Store, constant_numbers,
+    settle,
 };
 use flat_circuit::{Case, CaseList, Circuit};
 use scald_base::{List, NoMemory};
 use std::alloc::Global;
 use step_values::Value;
 use wave_core::CyclicWave;
+
+/// The cases of a circuit, and what is found once for all of them.
+#[derive(Clone, Copy)]
+pub struct AllCases<'a> {
+    pub list: &'a CaseList,
+    /// The classes of the circuit's nets, by which rounds go.
+    pub classes: &'a NetClasses,
+    /// The nets that each case reaches, if all set the same nets.
+    pub reached: &'a Option<Reached>,
+}
 
 /// The numbers of the waves of all nets before those of the case are set: nothing is known of a net
 /// that the case reaches, and each other net is as it was.
@@ -101,55 +111,54 @@ pub fn case_waves<W: CyclicWave<Item = Value>>(
     alloc: Global,
     c: &Circuit,
     store: &mut Store<W>,
-    cases: &CaseList,
-    classes: &NetClasses,
-    shared: Option<&Reached>,
+    cases: &AllCases,
     base: &Settled,
     number: u32,
     limit: u32,
 ) -> Result<Settled, EngineEnd>
     requires known { AreKnown store.old base.now.numbers }
-    requires classes { AreClasses c.now cases.now classes.now }
-    requires number { number < length cases.now }
-    requires exist { NetsExist c.now (case_at cases.now number) }
-    requires shared { IfSome (option_copied shared)
-        (AreReached c.now (case_at cases.now number)) }
+    requires classes { AreClasses c.now cases.now.list.now cases.now.classes.now }
+    requires number { number < length cases.now.list.now }
+    requires exist { NetsExist c.now (case_at cases.now.list.now number) }
+    requires shared { IfSome cases.now.reached.now
+        (AreReached c.now (case_at cases.now.list.now number)) }
     requires base { IsBase c.now base.now.rounds base.now.rounds
         (waves_of (waves_at store.old base.now.numbers)) }
     requires fit { FitWaves c.now (waves_at store.old base.now.numbers) }
     ensures grows { Grows store.old store.new }
     ensures known { IfOk result (λ s. AreKnown store.new s.numbers) }
-    ensures settled { let case = case_at cases.now number in
+    ensures settled { let case = case_at cases.now.list.now number in
         let before = waves_of (waves_at store.old base.now.numbers) in
         IfOk result (λ s. (cone : ℕ → Bool) → IsCone c.now case cone →
         IsCase c.now case cone before limit s.rounds (waves_of (waves_at store.new s.numbers))) }
     ensures within { IfOk result (λ s. s.rounds ≤ limit) }
     ensures fit { IfOk result (λ s. FitWaves c.now (waves_at store.new s.numbers)) }
-    ensures work { let case = case_at cases.now number in
+    ensures work { let case = case_at cases.now.list.now number in
         let before = waves_of (waves_at store.old base.now.numbers) in
         IfOk result (λ s. (cone : ℕ → Bool) → IsCone c.now case cone →
-        s.evals ≡ evaluations_to classes.now.nets c.now (case_active c.now cone)
+        s.evals ≡ evaluations_to cases.now.classes.now.nets c.now (case_active c.now cone)
         (case_round c.now case cone before) (s.rounds + 1)) }
-    ensures sound { IfOk result (λ s. PermitCase c.now (case_at cases.now number)
+    ensures sound { IfOk result (λ s. PermitCase c.now (case_at cases.now.list.now number)
         (base.now.rounds + s.rounds) (waves_of (waves_at store.new s.numbers))) }
-    ensures unsettled { let case = case_at cases.now number in
+    ensures unsettled { let case = case_at cases.now.list.now number in
         let before = waves_of (waves_at store.old base.now.numbers) in
         IfErr result (λ e. (cone : ℕ → Bool) → IsCone c.now case cone →
         EndsFor c.now.order (case_round c.now case cone before) limit e) }
-    ensures cone { MatchResult result (λ _.
-        HasCone c.now (case_at cases.now number)) (EndsInCone c.now (case_at cases.now number)) }
+    ensures cone { let case = case_at cases.now.list.now number in
+        MatchResult result (λ _. HasCone c.now case) (EndsInCone c.now case) }
     ensures loopless { HasNoLoop c.now → outputs c.now.instances ≤ limit →
         MatchResult result (λ s. s.rounds ≤ outputs c.now.instances) (λ e. e ≡ EngineEnd.NoMemory) }
 {
     c.known();
     c.header().known();
-    let case = case_at(cases, number);
-    let reached = own_reach(alloc, c, case, shared)?;
-    let (start, constants) = start_numbers(alloc, c, store, case, &reached.cone, &base.numbers)?;
-    let active = &reached.active;
-    let nets = classes.nets.as_ref();
-    let hearers = &classes.hearers;
-    settle(
-        alloc, c, store, constants, nets, hearers, &start, active, limit,
-    )
+    let case = case_at(cases.list, number);
+    let reached = own_reach(alloc, c, case, cases.reached)?;
+    let (numbers, constants) = start_numbers(alloc, c, store, case, &reached.cone, &base.numbers)?;
+    let Reached { cone: _, active } = reached;
+    let start = Start {
+        numbers,
+        constants,
+        active,
+    };
+    settle(alloc, c, store, &start, cases.classes, limit)
 }

@@ -19,7 +19,7 @@ mod reached;
 
 pub use base_rounds::{base, default_limit, driven_nets, start_numbers};
 pub use case_list::check_cases;
-pub use case_rounds::case_waves;
+pub use case_rounds::{AllCases, case_waves};
 pub use cones::cone;
 pub use parts::case_at;
 pub use printed_tick::{reach, tick};

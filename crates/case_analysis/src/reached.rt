@@ -2,7 +2,6 @@
 
 ghost use Rattle.std.specs.Prelude.{◌≡◌, ℕ, IfOk, IfSome, IsTrue, length};
 ghost use Rattle.std.specs.List.{All};
-ghost use Rattle.std.specs.Option.{option_copied};
 ghost use Rattle.fixpoint_engine.specs.Settled.{marked_in};
 ghost use Rattle.case_analysis.specs.Case.{NetsExist, case_active};
 ghost use Rattle.case_analysis.specs.Reached.{AreReached, nets_set};
@@ -75,7 +74,7 @@ fn all_set_the_same(first: &Case, cases: &[Case]) -> bool
     true
 }
 
-/// The nets that each of the cases reaches, where all set the same nets.
+/// The nets that each of the cases reaches, if all set the same nets.
 pub fn shared_reach(
     alloc: Global,
     c: &Circuit,
@@ -94,15 +93,15 @@ pub fn shared_reach(
     }
 }
 
-/// The nets that a case reaches: a copy of what it shares, where that is known.
+/// The nets that a case reaches: a copy of what all cases share, if that is known.
 pub fn own_reach(
     alloc: Global,
     c: &Circuit,
     case: &Case,
-    shared: Option<&Reached>,
+    shared: &Option<Reached>,
 ) -> Result<Reached, NoMemory>
     requires exist { NetsExist c.now case.now }
-    requires shared { IfSome (option_copied shared) (AreReached c.now case.now) }
+    requires shared { IfSome shared.now (AreReached c.now case.now) }
     ensures { IfOk result (AreReached c.now case.now) }
 {
     match shared {

@@ -39,7 +39,7 @@ lacks_some cases = list_any (λ bits. not (is_covered cases bits)) (combinations
 abbrev pub most_entries : List (List CaseValue) → ℕ
 most_entries cases = fold (λ most values. max most (length values)) 0 cases
 
--- How many parts of all combinations are those of a case of so many entries, where these are cut
+-- How many parts of all combinations are those of a case of so many entries, if these are cut
 -- into 2 to the power of `most` parts. A case that stands before has none.
 abbrev pub parts_for : ℕ → Option ℕ → ℕ → ℕ
 parts_for most None entries = if nat_le entries most then 2 ^ (most - entries) else 0

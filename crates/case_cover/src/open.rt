@@ -87,9 +87,9 @@ fn lacks_with(
 }
 
 /// Whether some combination of bits of the nets that the cases name is in no case: looked for one
-/// by one where there are at most 12 nets. With more it is whether different cases, of which each
+/// by one if there are at most 12 nets. With more it is whether different cases, of which each
 /// halves what it covers with each entry, can cover all. `firsts` are those of `firsts_same`. Of no
-/// case at all it is not. `NoMemory` comes where memory runs out.
+/// case at all it is not. `NoMemory` comes if memory runs out.
 pub fn is_open(alloc: Global, cases: &[Case], firsts: &[Option<usize>]) -> Result<bool, NoMemory>
     requires { firsts.now ≡ firsts_same cases.now }
     ensures { IfOk result (λ is. is ≡ spec_is_open cases.now) }

@@ -40,7 +40,7 @@ abbrev pub end_of : Corner → Region → ℕ
 end_of Late r = r.last
 end_of Early r = r.first
 
--- The edge is the clock's ideal one, or where there is none the change itself.
+-- The edge is the clock's ideal one, or if there is none the change itself.
 abbrev pub arrival_at : Circuit → Corner → Direction → ℕ → ℕ → Arrival
 arrival_at c corner d i t =
     record {

@@ -115,7 +115,7 @@ pin_sets c ws j p = map has (folds_in values (pin_waves c ws j) p)
 abbrev pub pin_fold : Circuit → Waves → Instance → ℕ → ℕ → Value
 pin_fold c ws j i p = fold_of values (wave_of_pin (pin_waves c ws j) i) p
 
--- The pin that is marked, where its rule holds: then it alone is listened to, and the others stay
+-- The pin that is marked, if its rule holds: then it alone is listened to, and the others stay
 -- as they are.
 abbrev pub held_of : Option ℕ → Option (ℕ × ℕ) → Option ℕ
 held_of (Some marked) None = Some marked
@@ -136,7 +136,7 @@ abbrev pub output_by : Option ℕ → Kind → List Steps → ℕ → Steps → 
 output_by None kind sets i set = output_steps kind (listening kind (slice_set sets i set))
 output_by (Some marked) kind sets i set = output_steps kind (set ∷ has S ∷ [])
 
--- the steps of the output where a pin makes one of these
+-- the steps of the output if a pin makes one of these
 abbrev pub output_with : Circuit → Waves → Instance → ℕ → ℕ → Steps → Steps
 output_with c ws j p i set = output_by (held_pin c ws j) j.kind (pin_sets c ws j p) i set
 
@@ -205,7 +205,7 @@ abbrev pub if_loose : (ℕ → Option Cause) → Option Cause → Option Cause
 if_loose bounding None = None
 if_loose bounding (Some loose) = option_or (bounding loose.pin) (Some loose)
 
--- The first pin of which all causes end in this slot; else one of which some do; else, where a pin
+-- The first pin of which all causes end in this slot; else one of which some do; else, if a pin
 -- causes the event, the first of which a step ends here, and else that pin.
 abbrev pub cause_of : Circuit → Waves → Instance → Corner → Direction → ℕ → Option Cause
 cause_of c ws j corner d p =

@@ -135,7 +135,7 @@ abbrev pub of_both : List Counted → List Counted → List Counted
 of_both one other =
     filter (λ (x : Counted). nat_lt 0 x.amount && is_part_of other x.part) (once_from [] one)
 
--- the same of one part, where these came before it
+-- the same of one part, if these came before it
 abbrev pub is_twice : List Counted → List Counted → Counted → Bool
 is_twice seen other x =
     not (is_part_of seen x.part) && (nat_lt 0 x.amount && is_part_of other x.part)

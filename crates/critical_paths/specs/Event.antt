@@ -27,7 +27,7 @@ steps_of Rise before after = not before && after
 steps_of Fall before after = before && not after
 steps_of Change before after = (not before && after) || (before && not after)
 
--- the direction that rises and falls, each where it is said, make together
+-- the direction that rises and falls, each if it is said, make together
 abbrev pub direction_by : Bool → Bool → Option Direction
 direction_by true true = Some Change
 direction_by true false = Some Rise

@@ -105,7 +105,7 @@ way_by nodes (Some n) = n ∷ rest_of nodes n
 abbrev pub way_of : List Node → ℕ → List Node
 way_of nodes i = way_by nodes (slice_get nodes i)
 
--- their steps, where the first is at this tick
+-- their steps, if the first is at this tick
 abbrev pub step_at : ℤ → Node → Step
 step_at tick n =
     record { net = n.stop.net; direction = n.stop.direction; passage = n.passage; tick = tick }
@@ -121,14 +121,14 @@ path_known nodes i = known_by nodes (slice_get nodes i)
 -- ---- paths without a bound on their length
 
 module _ (c : Circuit) (ws : Waves) where
-  -- how a path ends at an event, where these were passed
+  -- how a path ends at an event, if these were passed
   abbrev pub IsEnd : List Stop → Stop → Ending → Type 0
   IsEnd seen s Edge = (list_any (same_stop s) seen ≡ false) × (origin_of c ws s ≡ Input)
   IsEnd seen s AtSource = (list_any (same_stop s) seen ≡ false) × (origin_of c ws s ≡ Input)
   IsEnd seen s InLoop = list_any (same_stop s) seen ≡ true
   IsEnd seen s ByNothing = (list_any (same_stop s) seen ≡ false) × (origin_of c ws s ≡ Level)
 
-  -- the nodes go on as events do, where these were passed
+  -- the nodes go on as events do, if these were passed
   abbrev pub Goes : List Stop → Ending → Node → List Node → Type 0
   Goes seen end n [] = IsEnd seen n.stop end
   Goes seen end n (m ∷ more) =

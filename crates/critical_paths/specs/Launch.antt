@@ -34,7 +34,7 @@ abbrev pub taken : List Link → ℤ
 taken [] = pos 0
 taken (link ∷ links) = ticks_of link.passage +ℤ taken links
 
--- the tick of a path's last event, where its first is at this one
+-- the tick of a path's last event, if its first is at this one
 abbrev pub source_tick : ℤ → Path → ℤ
 source_tick tick path = tick -ℤ taken path.links
 
@@ -70,7 +70,7 @@ abbrev pub offset_in : Header → Corner → Event → Option Net → Option ℤ
 offset_in h corner e None = None
 offset_in h corner e (Some net) = offset_by h corner e net.spec
 
--- how long after its ideal edge a step of a clock comes, where there is such an edge
+-- how long after its ideal edge a step of a clock comes, if there is such an edge
 abbrev pub offset_of : Circuit → Corner → Event → Option ℤ
 offset_of c corner e = offset_in c.header corner e (slice_get c.nets e.net)
 
@@ -114,8 +114,8 @@ abbrev pub edge_of_pin : Circuit → Corner → ℕ → Option PinPath → Optio
 edge_of_pin c corner tick None = None
 edge_of_pin c corner tick (Some found) = edge_of c corner (pos tick -ℤ pos found.wire) found.path
 
--- By how many ticks the data's edge comes before the clock's, where both are of one net: more than
--- 0 where it is an earlier edge, and 0 where it is the clock's own.
+-- By how many ticks the data's edge comes before the clock's, if both are of one net: more than
+-- 0 if it is an earlier edge, and 0 if it is the clock's own.
 abbrev pub ago_of : Edge → Edge → Option ℤ
 ago_of data_edge clock_edge =
     if data_edge.net == clock_edge.net then Some (clock_edge.tick -ℤ data_edge.tick) else None

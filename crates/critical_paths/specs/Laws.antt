@@ -31,7 +31,7 @@ PathsAreEvents =
 
 -- ---- where a path ends
 
--- A source is a net that nothing drives; where no pin causes an event some element drives the net;
+-- A source is a net that nothing drives; if no pin causes an event some element drives the net;
 -- and a loop ends at an event of one of its links.
 abbrev pub EndsAt : Circuit → Path → End → Type 0
 EndsAt c path Source = driver c path.last.net ≡ None

@@ -133,7 +133,7 @@ delay_to s Rise = s.rise
 delay_to s Fall = s.fall
 delay_to s Change = either_delay s
 
--- what causes steps of one direction at the corner of their own delay, where they are asked for
+-- what causes steps of one direction at the corner of their own delay, if they are asked for
 abbrev pub arc_at_corner : Circuit → Waves → Instance → Corner → Direction → ℕ → Split →
     (Word → Bool) → Direction → Option Arc
 arc_at_corner c ws j corner d q s test own =
@@ -173,7 +173,7 @@ abbrev pub event_before : Corner → ℕ → ℕ → Bounds → Direction → �
 event_before corner period p wire d i n =
     record { net = i; direction = d; slot = back period p (inward corner wire n) }
 
--- through a pin and n wire delays inward from the corner, where its net has the event there
+-- through a pin and n wire delays inward from the corner, if its net has the event there
 abbrev pub before_wire : Circuit → Waves → Corner → ℕ → Arc → Direction → ℕ → ℕ → Option Before
 before_wire c ws corner p a d i n =
     if is_event c ws (event_before corner (period c.header) p (wire_at c.nets i) d i n)

@@ -169,7 +169,7 @@ behind c ws corner p d (Constant bit) = None
 
 -- ---- a chosen step
 
--- the steps of each pin, where one makes this step
+-- the steps of each pin, if one makes this step
 abbrev pub choosing : List Value → ℕ → Bool → Bool → List Steps
 choosing found pin before after = slice_set (map has found) pin (one_step before after)
 

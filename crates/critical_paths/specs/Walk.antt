@@ -94,7 +94,7 @@ path_after s rest Input = ending s Source
 path_after s rest Level = ending s Nothing
 path_after s rest (Earlier passage before) = linked (link s passage) (rest before)
 
--- From a stop on, where these were passed and at most so many more can follow.
+-- From a stop on, if these were passed and at most so many more can follow.
 abbrev pub path_from : Circuit → Waves → ℕ → List Stop → Stop → Path
 path_from c ws zero seen s = ending s Loop
 path_from c ws (suc left) seen s =

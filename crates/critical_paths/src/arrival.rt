@@ -24,7 +24,7 @@ use scald_base::{Delay, NoMemory};
 use step_values::Value;
 use wave_core::CyclicWave;
 
-/// As often as a place is begun or ended: once each, where a clock and an end have three places for
+/// As often as a place is begun or ended: once each, if a clock and an end have three places for
 /// each of at most 65,536 nets.
 const STEPS: u32 = 2 * 3 * 65_536;
 
@@ -301,7 +301,7 @@ impl Paths {
         Some((from, past))
     }
 
-    /// Where the arrivals at a place stand among all, or `None` where a way to it comes from a
+    /// Where the arrivals at a place stand among all, or `None` if a way to it comes from a
     /// loop.
     pub fn find<W: CyclicWave<Item = Value>>(
         &mut self,

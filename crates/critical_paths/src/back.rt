@@ -109,7 +109,7 @@ fn firm(rise: Option<Arc>, fall: Option<Arc>) -> Option<Arc>
     making.or(bounding)
 }
 
-/// What an event comes by, where the event before it is read by folds.
+/// What an event comes by, if the event before it is read by folds.
 pub fn folded(found: Option<Back>) -> Option<Back>
     ensures { (p : ℕ) →
         option_map (read_of p) result ≡ option_map by_folds (option_map (before_of p) found) }
@@ -210,7 +210,7 @@ impl<'a, W: CyclicWave<Item = Value>> View<'a, W> {
         self.through(asked, found?)
     }
 
-    /// What makes steps of one of two directions at the bound of their own delay, where they are
+    /// What makes steps of one of two directions at the bound of their own delay, if they are
     /// asked for.
     pub(crate) fn step_arc(&self, asked: Asked, step: Direction) -> Result<Option<Arc>, NoMemory>
         requires sees { Sees self.now.circuit.now self.now.waves.now self.now.hazards.now }
@@ -369,7 +369,7 @@ impl<'a, W: CyclicWave<Item = Value>> View<'a, W> {
         Ok(found)
     }
 
-    /// By what an event of an element's output comes, or `None` where nothing makes it.
+    /// By what an event of an element's output comes, or `None` if nothing makes it.
     pub fn back(&self, asked: Asked, event: Event) -> Result<Option<Back>, NoMemory>
         requires sees { Sees self.now.circuit.now self.now.waves.now self.now.hazards.now }
         requires is { slice_get self.now.circuit.now.instances asked.number

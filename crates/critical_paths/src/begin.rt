@@ -64,7 +64,7 @@ impl Paths {
         }
     }
 
-    /// How many ticks before the clock the data is launched, where both come from one clock.
+    /// How many ticks before the clock the data is launched, if both come from one clock.
     pub fn ago(&self, data: At, clock: At) -> Option<i64>
         requires own { «data».node < length self.now.nodes }
         requires clock { clock.node < length self.now.nodes }

@@ -140,7 +140,7 @@ fn add_link(out: &mut Parts, c: &Circuit, stop: Stop, passage: Passage) -> Resul
     }
 }
 
-/// Appends the offset of a clock that moves as a whole, where a path comes from its net.
+/// Appends the offset of a clock that moves as a whole, if a path comes from its net.
 fn add_source(out: &mut Parts, c: &Circuit, net: u32, end: End) -> Result<(), NoMemory>
     ensures { OnOk result (out.new ≡ out.old ++ source_parts c.now net (end_of end)) }
 {
@@ -161,7 +161,7 @@ fn add_source(out: &mut Parts, c: &Circuit, net: u32, end: End) -> Result<(), No
 }
 
 /// Appends the parts of an event on a path: those that it comes by, or those of the path's source
-/// where it is the last.
+/// if it is the last.
 fn add_node(
     out: &mut Parts,
     c: &Circuit,
@@ -215,7 +215,7 @@ fn is_twice(own: &[Counted], place: usize, other: &[Counted]) -> bool
     !is_among(&own[..place], part) && amount > 0 && is_among(other, part)
 }
 
-/// Appends a part where it is counted.
+/// Appends a part if it is counted.
 fn add_if(out: &mut Parts, is_counted: bool, part: Counted) -> Result<(), NoMemory>
     ensures { OnOk result (out.new ≡ (if is_counted then out.old ++ part ∷ [] else out.old)) }
 {

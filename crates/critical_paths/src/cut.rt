@@ -1,4 +1,4 @@
-//! What cuts a step of an output short where rises and falls have delays of their own.
+//! What cuts a step of an output short if rises and falls have delays of their own.
 
 ghost use Rattle.std.specs.Prelude.{◌≡◌, ◌-◌, ◌*◌, ℤ, ◌-ℤ◌, ◌<◌, length, slice_get, IfOk, None, Some, true, if◌then◌else◌};
 ghost use Rattle.std.specs.Option.{option_map};
@@ -20,7 +20,7 @@ use scald_base::NoMemory;
 use step_values::Value;
 use wave_core::CyclicWave;
 
-/// The other step of a net, where it cuts one short.
+/// The other step of a net, if it cuts one short.
 fn cut_by_event(is_cut: bool, late: i8, event: Event) -> Option<Back>
     ensures { result ≡ (if is_cut then Some
         (record { passage = Passage.Cut late; event = event }) else None) }
@@ -127,7 +127,7 @@ impl<'a, W: CyclicWave<Item = Value>> View<'a, W> {
         Ok(after)
     }
 
-    /// The same of one of two steps, where it is asked for.
+    /// The same of one of two steps, if it is asked for.
     fn cutter(&self, asked: Asked, event: Event, step: Direction) -> Result<Option<Back>, NoMemory>
         requires sees { Sees self.now.circuit.now self.now.waves.now self.now.hazards.now }
         requires is { slice_get self.now.circuit.now.instances asked.number

@@ -22,7 +22,7 @@ pub enum Direction {
 }
 
 impl Direction {
-    /// The steps that are named true, or `None` where neither is.
+    /// The steps that are named true, or `None` if neither is.
     pub fn of(rises: bool, falls: bool) -> Option<Direction>
         ensures { result ≡ direction_by rises falls }
     {
@@ -69,7 +69,7 @@ impl Direction {
         self.is_among(steps(value))
     }
 
-    /// The steps of the complement, where it is asked for.
+    /// The steps of the complement, if it is asked for.
     pub fn turned(self, inverted: bool) -> Direction
         ensures { result ≡ turned inverted self }
     {

@@ -27,7 +27,7 @@ impl<'a, W: CyclicWave<Item = Value>> View<'a, W> {
         direction.is_among(StepSet::one_if(true, before, after))
     }
 
-    /// How long after its ideal edge a step of a clock comes, where there is such an edge.
+    /// How long after its ideal edge a step of a clock comes, if there is such an edge.
     fn offset_if_edge(
         &self,
         clock: &ClockSpec,
@@ -54,7 +54,7 @@ impl<'a, W: CyclicWave<Item = Value>> View<'a, W> {
         }
     }
 
-    /// How long after its ideal edge an event of an undriven net comes, in ticks, where there is
+    /// How long after its ideal edge an event of an undriven net comes, in ticks, if there is
     /// one. A clock that moves as a whole is as early as it may be at both ends of a pulse.
     pub fn offset(&self, stop: Stop) -> Option<i64>
         requires { stop.slot < period_of self.now.circuit.now.header }

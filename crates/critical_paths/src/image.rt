@@ -88,7 +88,7 @@ fn chosen_bit(select: bool, first: bool, second: bool) -> bool
     if select { second } else { first }
 }
 
-/// The steps of an element by one step of each pin, where they are wanted. Of kinds that are made
+/// The steps of an element by one step of each pin, if they are wanted. Of kinds that are made
 /// otherwise there are none.
 #[tactic(auto, unfolding(crate::specs::Image::rule_of))]
 fn step_of(wanted: bool, d: Step, kind: Kind, a: Step, b: Step, c: Step) -> StepSet

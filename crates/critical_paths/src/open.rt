@@ -344,7 +344,7 @@ impl<'a, W: CyclicWave<Item = Value>> View<'a, W> {
         Ok(folded(back))
     }
 
-    /// By what an end of a pulse comes at an element's output, or `None` where nothing makes it.
+    /// By what an end of a pulse comes at an element's output, or `None` if nothing makes it.
     pub fn end_back(&self, asked: Asked) -> Result<Option<Back>, NoMemory>
         requires sees { Sees self.now.circuit.now self.now.waves.now self.now.hazards.now }
         requires is { slice_get self.now.circuit.now.instances asked.number

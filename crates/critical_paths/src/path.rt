@@ -89,7 +89,7 @@ pub enum End {
 #[derive(Clone, Copy)]
 pub struct Node {
     pub stop: Stop,
-    /// By what it comes; `None` where no path goes on from it.
+    /// By what it comes; `None` if no path goes on from it.
     pub passage: Option<Passage>,
     /// The number of the event before.
     pub next: usize,

@@ -29,7 +29,7 @@ fn step_at(node: Node, tick: i64) -> Step
     }
 }
 
-/// What an event takes from the one before it, in ticks; where there is none, nothing.
+/// What an event takes from the one before it, in ticks; if there is none, nothing.
 fn taken(passage: Option<Passage>) -> i64
     ensures is { result ≡ ticks_by passage }
     ensures near { IsNear 131072 result }

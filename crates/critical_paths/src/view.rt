@@ -265,7 +265,7 @@ fn marked_pin(element: &Instance) -> Option<usize>
     element.pins.as_slice().iter().position(|pin| pin.hold)
 }
 
-/// Whether an element listens to a pin, where one may count alone.
+/// Whether an element listens to a pin, if one may count alone.
 pub fn is_heard(element: &Instance, held: Option<usize>, place: usize) -> bool
     ensures { result ≡ is_heard_by held element.now.kind place }
 {

@@ -182,7 +182,7 @@ impl Paths {
         Ok(number)
     }
 
-    /// The number of an event, whose path is worked out where it is not yet.
+    /// The number of an event, whose path is worked out if it is not yet.
     pub(crate) fn trace<W: CyclicWave<Item = Value>>(
         &mut self,
         view: &View<W>,
@@ -242,7 +242,7 @@ impl<'a, W: CyclicWave<Item = Value>> View<'a, W> {
         })
     }
 
-    /// The path of a step of a pin, or `None` where it may not make it.
+    /// The path of a step of a pin, or `None` if it may not make it.
     pub fn pin_path(&self, paths: &mut Paths, at: PinEvent) -> Result<Option<At>, NoMemory>
         requires sees { Sees self.now.circuit.now self.now.waves.now self.now.hazards.now }
         requires knows { Knows self.now.circuit.now (waves_of self.now.waves.now) paths.old.nodes

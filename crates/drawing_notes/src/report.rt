@@ -15,7 +15,7 @@ use crate::{
 };
 use drawing_omissions::Notes;
 use flat_circuit::Circuit;
-use listing::{Piece, add_line, write_period};
+use listing::{Output, Piece, add_line, write_period};
 use program_call::{Reply, verdict};
 use scald_base::{Bytes, NoMemory, Outcome};
 use std::alloc::Global;
@@ -92,6 +92,6 @@ pub fn report(
     add_count(&mut bytes, count)?;
     Ok(Reply {
         outcome: verdict(count as u32),
-        bytes,
+        bytes: Output::whole(bytes),
     })
 }

@@ -1,20 +1,40 @@
 -- What stands behind the next token.
-use Rattle.std.proofs.Common.{◌≡◌, ◌≢◌, ℕ, Bool, true, false, not, List, [], ◌∷◌, refl, sym, ap}
-use Rattle.std.specs.Prelude.{IsTrue, IsFalse}
+use Rattle.std.proofs.Common.{◌≡◌, ◌≢◌, ℕ, Bool, true, false, not, List, [], ◌∷◌, Some, None, refl, sym, ap}
+use Rattle.std.specs.Prelude.{IsTrue, IsFalse, slice_get}
 use Rattle.scald_lex.specs.declared.token.Token as lex
-use Rattle.drawing_grammar.specs.declared.terminal.Terminal.TheVariants.{Colon}
-use Rattle.drawing_grammar.specs.Lexeme.{Lexeme, terminal, lexemes}
+use Rattle.drawing_grammar.specs.declared.terminal.Terminal.TheVariants.{Colon, EndOfText}
+use Rattle.drawing_grammar.specs.Lexeme.{Lexeme, terminal, lexeme_of, lexemes}
 use Rattle.drawing_grammar.specs.Front.{first_terminal, behind_first}
 use Rattle.drawing_grammar.specs.Machine.{same, no_colon}
 use Rattle.drawing_grammar.proofs.Terminals.{is_same, same_is}
-use Rattle.drawing_reader.specs.Reader.{other_tokens}
 
-pub behind_lexemes : (text : List ℕ) (rest : List lex.Token) → lexemes text (other_tokens rest) ≡ behind_first (lexemes text rest)
-behind_lexemes text [] = refl
-behind_lexemes text (t ∷ ts) = refl
+pub first_there : (text : List ℕ) (ts : List lex.Token) (u : lex.Token) →
+    Some u ≡ slice_get ts 0 → (us : List Lexeme) × (lexemes text ts ≡ lexeme_of text u ∷ us)
+first_there text [] u e = absurd cc
+first_there text (t ∷ ts) u e =
+    let same : t ≡ u = cc in
+    (lexemes text ts, ap (λ (x : lex.Token). lexeme_of text x ∷ lexemes text ts) same)
 
-pub none_behind : (us : List Lexeme) → us ≡ [] → false ≡ no_colon us
-none_behind us e = rw e refl
+pub none_second : (text : List ℕ) (ts : List lex.Token) → None ≡ slice_get ts 1 →
+    false ≡ no_colon (behind_first (lexemes text ts))
+none_second text [] e = refl
+none_second text (t ∷ []) e = refl
+none_second text (t ∷ u ∷ us) e = absurd cc
+
+pub no_second : (text : List ℕ) (ts : List lex.Token) → None ≡ slice_get ts 1 →
+    EndOfText ≡ first_terminal (behind_first (lexemes text ts))
+no_second text [] e = refl
+no_second text (t ∷ []) e = refl
+no_second text (t ∷ u ∷ us) e = absurd cc
+
+pub second_there : (text : List ℕ) (ts : List lex.Token) (u : lex.Token) →
+    Some u ≡ slice_get ts 1 → (us : List Lexeme)
+    × (behind_first (lexemes text ts) ≡ lexeme_of text u ∷ us)
+second_there text [] u e = absurd cc
+second_there text (t ∷ []) u e = absurd cc
+second_there text (t ∷ v ∷ vs) u e =
+    let same : v ≡ u = cc in
+    (lexemes text vs, ap (λ (x : lex.Token). lexeme_of text x ∷ lexemes text vs) same)
 
 pub colon_behind : (us : List Lexeme) (b : Bool) → us ≢ [] → (IsTrue b → first_terminal us ≡ Colon) →
     (IsFalse b → first_terminal us ≢ Colon) → not b ≡ no_colon us

@@ -5,6 +5,8 @@ pub mod Periods
 pub mod Keys
 pub mod Labels
 pub mod Naming
+pub mod Sifting
+pub mod Backwards
 pub mod Bare
 pub mod Answered
 pub mod Sketches

@@ -7,20 +7,26 @@ use Rattle.drawing_tree.specs.Tree as tree
 use Rattle.scald_lex.specs.declared.token.Token as lex
 use Rattle.drawing_grammar.specs.Lexeme.{lexemes}
 use Rattle.drawing_grammar.specs.Names.{names_from, AreGood, IsNameStop}
+use Rattle.drawing_reader.specs.declared.names.Doubtful.{Doubtful}
+use Rattle.drawing_reader.specs.Sifted.{Sifted, naming_of}
 use Rattle.drawing_grammar.specs.DoubleNames.{Key, Declaration, constants, declared, Declares, IsStopAt, IsDistinct, IsDoubleStop}
 use Rattle.drawing_grammar.specs.declared.head.Head.{Head}
 use Rattle.drawing_tree.specs.declared.statement.Assign.{Assign}
 use Rattle.drawing_tree.specs.declared.statement.Stmt.{Stmt}
 
-pub names_of_slice : (h : Header) (text : List ℕ) (slice tokens : List lex.Token) (stop : Stop) →
-    slice ≡ tokens → IsNameStop h (names_from false (lexemes text slice)) stop → IsNameStop h (names_from false (lexemes text tokens)) stop
-names_of_slice h text slice tokens stop same found =
-    let F : List lex.Token → Type 0 = λ ts. IsNameStop h (names_from false (lexemes text ts)) stop in subst F same found
+pub wrong_of_few : (h : Header) (text : List ℕ) (slice tokens : List lex.Token) (some few : List Doubtful) (stop : Stop) →
+    some ≡ few → slice ≡ tokens → Sifted (map naming_of few) (names_from false (lexemes text slice)) →
+    IsNameStop h (map naming_of some) stop → IsNameStop h (names_from false (lexemes text tokens)) stop
+wrong_of_few h text slice tokens some few stop same all sifted found =
+    subst (λ (ts : List lex.Token). IsNameStop h (names_from false (lexemes text ts)) stop) all
+    (sifted.stop h stop (subst (λ (ds : List Doubtful). IsNameStop h (map naming_of ds) stop) same found))
 
-pub good_of_slice : (h : Header) (text : List ℕ) (slice tokens : List lex.Token) →
-    slice ≡ tokens → AreGood h (names_from false (lexemes text slice)) → AreGood h (names_from false (lexemes text tokens))
-good_of_slice h text slice tokens same good =
-    let F : List lex.Token → Type 0 = λ ts. AreGood h (names_from false (lexemes text ts)) in subst F same good
+pub good_of_few : (h : Header) (text : List ℕ) (slice tokens : List lex.Token) (some few : List Doubtful) →
+    some ≡ few → slice ≡ tokens → Sifted (map naming_of few) (names_from false (lexemes text slice)) →
+    AreGood h (map naming_of some) → AreGood h (names_from false (lexemes text tokens))
+good_of_few h text slice tokens some few same all sifted good =
+    subst (λ (ts : List lex.Token). AreGood h (names_from false (lexemes text ts))) all
+    (sifted.good h (subst (λ (ds : List Doubtful). AreGood h (map naming_of ds)) same good))
 
 doubles_same : (consts : List tree.Assignment) (places : List Place) (macros : List tree.Macro) (slice heads : List Head) (body items : List Stmt) → slice ≡ heads → body ≡ items →
     declared consts places macros slice (tree.statements_of body) ≡ declared consts places macros heads (tree.statements_of items)

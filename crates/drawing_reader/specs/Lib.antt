@@ -3,5 +3,5 @@ pub mod Operators
 pub mod Statements
 pub mod Sketched
 pub mod Keys
-pub mod Known
+pub mod Sifted
 pub mod Ascending

@@ -23,7 +23,7 @@ use Rattle.drawing_grammar.specs.Machine.{Verdict, Complete, verdict, Moves, Fai
 
 -- the tokens before it
 abbrev pub tokens_at : Cursor → List Lexeme
-tokens_at c = lexemes c.text.now c.rest.now
+tokens_at c = lexemes c.text.now c.rest
 
 -- what they give of these needs
 abbrev pub ahead : Cursor → (needs : List Need) → Verdict needs

@@ -38,7 +38,7 @@ impl<'a> Cursor<'a> {
         ensures reads { (rest : List Need) →
             Gives result (λ x v. (x, v)) (ahead self.old (part Index 0 ∷ rest))
             (ahead self.new rest) }
-        ensures no_longer { length self.new.rest.now ≤ length self.old.rest.now }
+        ensures no_longer { length self.new.rest ≤ length self.old.rest }
     {
         if !self.starts(Terminal::Less) {
             return Ok(0);
@@ -53,7 +53,7 @@ impl<'a> Cursor<'a> {
         ensures reads { (rest : List Need) →
             Gives result (λ x v. (x, v)) (ahead self.old (part Entry 0 ∷ rest))
             (ahead self.new rest) }
-        ensures no_longer { length self.new.rest.now ≤ length self.old.rest.now }
+        ensures no_longer { length self.new.rest ≤ length self.old.rest }
     {
         if !self.starts(Terminal::Name) {
             return Err(self.refused(RefusalKind::Syntax));
@@ -76,7 +76,7 @@ impl<'a> Cursor<'a> {
         ensures reads { (rest : List Need) →
             Gives result (λ x v. (x, v)) (ahead self.old (group Entries 0 ∷ rest))
             (ahead self.new rest) }
-        ensures no_longer { length self.new.rest.now ≤ length self.old.rest.now }
+        ensures no_longer { length self.new.rest ≤ length self.old.rest }
     {
         let first = self.entry(alloc)?;
         let mut all = CaseEntries::new(alloc);
@@ -93,8 +93,8 @@ impl<'a> Cursor<'a> {
         ensures reads { (rest : List Need) →
             Gives result (λ x v. (x, v)) (ahead self.old (part CaseStatement 0 ∷ rest))
             (ahead self.new rest) }
-        ensures shorter { OnOk result (length self.new.rest.now < length self.old.rest.now) }
-        ensures no_longer { length self.new.rest.now ≤ length self.old.rest.now }
+        ensures shorter { OnOk result (length self.new.rest < length self.old.rest) }
+        ensures no_longer { length self.new.rest ≤ length self.old.rest }
     {
         if !self.starts(Terminal::Case) {
             return Err(self.refused(RefusalKind::Syntax));
@@ -113,7 +113,7 @@ impl<'a> Cursor<'a> {
         ensures reads { (rest : List Need) →
             Gives result (λ x v. (x, v)) (ahead self.old (group Cases 0 ∷ rest))
             (ahead self.new rest) }
-        ensures no_longer { length self.new.rest.now ≤ length self.old.rest.now }
+        ensures no_longer { length self.new.rest ≤ length self.old.rest }
     {
         let mut all = CaseStmts::new(alloc);
         'each: while self.starts(Terminal::Case) {

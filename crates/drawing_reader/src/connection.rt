@@ -29,7 +29,7 @@ impl<'a> Cursor<'a> {
         ensures reads { (rest : List Need) → Gives result (λ x v.
             (option_map expression_of x, v)) (ahead self.old (part RangeEnd 0 ∷ rest))
             (ahead self.new rest) }
-        ensures no_longer { length self.new.rest.now ≤ length self.old.rest.now }
+        ensures no_longer { length self.new.rest ≤ length self.old.rest }
     {
         if !self.starts(Terminal::Colon) {
             return Ok(None);
@@ -43,7 +43,7 @@ impl<'a> Cursor<'a> {
     pub fn range(&mut self, alloc: Global) -> Result<WrittenRange, Stop>
         ensures reads { (rest : List Need) → Gives result (λ x v.
             (written_range_of x, v)) (ahead self.old (part Range 0 ∷ rest)) (ahead self.new rest) }
-        ensures no_longer { length self.new.rest.now ≤ length self.old.rest.now }
+        ensures no_longer { length self.new.rest ≤ length self.old.rest }
     {
         if !self.starts(Terminal::Less) {
             return Ok(None);
@@ -59,7 +59,7 @@ impl<'a> Cursor<'a> {
     /// A net, with its range if one follows.
     pub fn net(&mut self, alloc: Global) -> Result<(SignalName, WrittenRange), Stop>
         ensures reads { NetAt result self.old self.new }
-        ensures no_longer { length self.new.rest.now ≤ length self.old.rest.now }
+        ensures no_longer { length self.new.rest ≤ length self.old.rest }
     {
         let token = self.item(Terminal::Name)?;
         let name = name(alloc, self.text, token)?;
@@ -71,7 +71,7 @@ impl<'a> Cursor<'a> {
         ensures reads { (rest : List Need) →
             Gives result (λ x v. (item_of x, v)) (ahead self.old (part Atom 0 ∷ rest))
             (ahead self.new rest) }
-        ensures no_longer { length self.new.rest.now ≤ length self.old.rest.now }
+        ensures no_longer { length self.new.rest ≤ length self.old.rest }
     {
         match self.look() {
             Terminal::Zero => {
@@ -97,7 +97,7 @@ impl<'a> Cursor<'a> {
         ensures reads { (rest : List Need) →
             Gives result (λ x v. (record { item = term_of x.0; place = x.1 }, v))
             (ahead self.old (part TermPart 0 ∷ rest)) (ahead self.new rest) }
-        ensures no_longer { length self.new.rest.now ≤ length self.old.rest.now }
+        ensures no_longer { length self.new.rest ≤ length self.old.rest }
     {
         match self.look() {
             Terminal::Minus => {
@@ -145,7 +145,7 @@ impl<'a> Cursor<'a> {
         ensures reads { (rest : List Need) →
             Gives result (λ x v. (x, v)) (ahead self.old (part Hold 0 ∷ rest))
             (ahead self.new rest) }
-        ensures no_longer { length self.new.rest.now ≤ length self.old.rest.now }
+        ensures no_longer { length self.new.rest ≤ length self.old.rest }
     {
         if !self.starts(Terminal::Exclamation) {
             return Ok(false);
@@ -159,7 +159,7 @@ impl<'a> Cursor<'a> {
         ensures reads { (rest : List Need) → Gives result (λ x v.
             (connection_of x, v)) (ahead self.old (group ConnGroup 0 ∷ rest))
             (ahead self.new rest) }
-        ensures no_longer { length self.new.rest.now ≤ length self.old.rest.now }
+        ensures no_longer { length self.new.rest ≤ length self.old.rest }
     {
         let (first, place) = self.term(alloc)?;
         let mut terms = Terms::new(alloc);
@@ -177,7 +177,7 @@ impl<'a> Cursor<'a> {
         ensures reads { (rest : List Need) → Gives result (λ x v.
             (map connection_of x, v)) (ahead self.old (group SomeConns 0 ∷ rest))
             (ahead self.new rest) }
-        ensures no_longer { length self.new.rest.now ≤ length self.old.rest.now }
+        ensures no_longer { length self.new.rest ≤ length self.old.rest }
     {
         let first = self.connection(alloc)?;
         let mut all = Conns::new(alloc);
@@ -205,7 +205,7 @@ impl<'a> Cursor<'a> {
         ensures reads { (rest : List Need) → Gives result (λ x v.
             (map connection_of x, v)) (ahead self.old (group ConnsGroup 0 ∷ rest))
             (ahead self.new rest) }
-        ensures no_longer { length self.new.rest.now ≤ length self.old.rest.now }
+        ensures no_longer { length self.new.rest ≤ length self.old.rest }
     {
         if !self.at_term() {
             return Ok(Conns::new(alloc));
@@ -219,7 +219,7 @@ impl<'a> Cursor<'a> {
         ensures reads { (rest : List Need) → Gives result (λ x v.
             (map connection_of x, v)) (ahead self.old (part Outputs 0 ∷ rest))
             (ahead self.new rest) }
-        ensures no_longer { length self.new.rest.now ≤ length self.old.rest.now }
+        ensures no_longer { length self.new.rest ≤ length self.old.rest }
     {
         if !self.starts(Terminal::Arrow) {
             return Ok(Conns::new(alloc));

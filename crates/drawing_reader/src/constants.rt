@@ -43,8 +43,8 @@ impl<'a> Cursor<'a> {
           },
           v,
         )) (ahead self.old (part ConstantPart 0 ∷ rest)) (ahead self.new rest) }
-        ensures shorter { OnOk result (length self.new.rest.now < length self.old.rest.now) }
-        ensures no_longer { length self.new.rest.now ≤ length self.old.rest.now }
+        ensures shorter { OnOk result (length self.new.rest < length self.old.rest) }
+        ensures no_longer { length self.new.rest ≤ length self.old.rest }
     {
         let begin = self.bump();
         let (token, name) = self.next_word(alloc)?;
@@ -62,7 +62,7 @@ impl<'a> Cursor<'a> {
     fn some_constants(&mut self, alloc: Global) -> Result<Constants, Stop>
         ensures reads { (rest : List Need) → Gives result (λ x v. (constants_of x, v))
             (ahead self.old (group ConstantsGroup 0 ∷ rest)) (ahead self.new rest) }
-        ensures no_longer { length self.new.rest.now ≤ length self.old.rest.now }
+        ensures no_longer { length self.new.rest ≤ length self.old.rest }
     {
         let mut consts = Assigns::new(alloc);
         let mut places = Places::new(alloc);

@@ -9,15 +9,16 @@ ghost use Rattle.drawing_grammar.specs.Machine.{Gives, refusal, no_colon};
 ghost use Rattle.drawing_reader.specs.Reader.{tokens_at, ahead, at, first_token, other_tokens};
 ghost use Rattle.drawing_grammar.specs.Front.{first_terminal, first_place, first_text, behind_first, AtKeyword, at_loop};
 
+use crate::rest::Rest;
 use drawing_grammar::{Edition, Keyword, Terminal, symbol_terminal, word_terminal};
 use scald_base::{Place, RefusalKind, Stop};
-use scald_lex::{PackedToken, Token, TokenKind};
+use scald_lex::{Token, TokenKind};
 
 /// Reads the tokens of a text from the front.
 #[derive(Drop)]
 pub struct Cursor<'a> {
     pub text: &'a [u8],
-    pub rest: &'a [PackedToken],
+    pub rest: Rest,
     /// How many binary operators of the expression have come.
     pub operators: usize,
 }
@@ -40,16 +41,6 @@ pub fn text_of<'a>(text: &'a [u8], token: Token) -> &'a [u8]
     between(text, token.start as usize, token.end as usize)
 }
 
-/// The bytes of the first of some tokens.
-fn first_text<'a>(text: &'a [u8], tokens: &[PackedToken]) -> &'a [u8]
-    ensures { result.now ≡ first_text (lexemes text.now tokens.now) }
-{
-    match tokens.first() {
-        None => &[],
-        Some(token) => text_of(text, token.token()),
-    }
-}
-
 /// What the grammar takes a token of a text for.
 #[inline(always)]
 pub fn terminal_of(text: &[u8], token: Token) -> Terminal
@@ -65,6 +56,13 @@ pub fn terminal_of(text: &[u8], token: Token) -> Terminal
     }
 }
 
+fn is_colon(terminal: Terminal) -> bool
+    ensures yes { IsTrue result → terminal ≡ Terminal.Colon }
+    ensures no { IsFalse result → terminal ≢ Terminal.Colon }
+{
+    terminal == Terminal::Colon
+}
+
 impl<'a> Cursor<'a> {
     /// What the grammar takes the next token for.
     #[inline(always)]
@@ -73,7 +71,17 @@ impl<'a> Cursor<'a> {
     {
         match self.rest.first() {
             None => Terminal::EndOfText,
-            Some(token) => terminal_of(self.text, token.token()),
+            Some(token) => terminal_of(self.text, token),
+        }
+    }
+
+    /// The bytes of the next token.
+    fn first_text(&self) -> &'a [u8]
+        ensures { result.now ≡ first_text (tokens_at self.now) }
+    {
+        match self.rest.first() {
+            None => &[],
+            Some(token) => text_of(self.text, token),
         }
     }
 
@@ -83,7 +91,7 @@ impl<'a> Cursor<'a> {
     {
         match self.rest.first() {
             None => Place { line: 0, col: 0 },
-            Some(token) => token.token().place,
+            Some(token) => token.place,
         }
     }
 
@@ -97,25 +105,20 @@ impl<'a> Cursor<'a> {
     /// The next token, or `None` if none is left.
     #[inline(always)]
     pub fn peek(&self) -> Option<Token>
-        ensures { result ≡ first_token self.now.rest.now }
+        ensures { result ≡ first_token self.now.rest }
     {
-        match self.rest.first() {
-            None => None,
-            Some(token) => Some(token.token()),
-        }
+        self.rest.first()
     }
 
     /// Goes past the next token, if one is left.
     #[inline(always)]
     pub fn advance(&mut self)
-        ensures rest { self.new.rest.now ≡ other_tokens self.old.rest.now }
-        ensures no_longer { length self.new.rest.now ≤ length self.old.rest.now }
+        ensures rest { self.new.rest ≡ other_tokens self.old.rest }
+        ensures no_longer { length self.new.rest ≤ length self.old.rest }
         ensures text { self.new.text.now ≡ self.old.text.now }
         ensures operators { self.new.operators ≡ self.old.operators }
     {
-        if let Some((_, rest)) = self.rest.split_first() {
-            self.rest = rest;
-        }
+        self.rest.advance();
     }
 
     /// Whether the next token is this terminal.
@@ -131,8 +134,8 @@ impl<'a> Cursor<'a> {
     #[inline(always)]
     pub fn bump(&mut self) -> Token
         ensures shorter { first_terminal (tokens_at self.old) ≢ EndOfText →
-            length self.new.rest.now < length self.old.rest.now }
-        ensures no_longer { length self.new.rest.now ≤ length self.old.rest.now }
+            length self.new.rest < length self.old.rest }
+        ensures no_longer { length self.new.rest ≤ length self.old.rest }
         ensures taken { first_terminal (tokens_at self.old) ≢ EndOfText →
             tokens_at self.old ≡ at self.old result ∷ tokens_at self.new }
         ensures text { self.new.text.now ≡ self.old.text.now }
@@ -156,8 +159,8 @@ impl<'a> Cursor<'a> {
         requires { terminal ≢ EndOfText }
         ensures reads { (rest : List Need) →
             Gives result (λ _ v. v) (ahead self.old (mark terminal ∷ rest)) (ahead self.new rest) }
-        ensures shorter { OnOk result (length self.new.rest.now < length self.old.rest.now) }
-        ensures no_longer { length self.new.rest.now ≤ length self.old.rest.now }
+        ensures shorter { OnOk result (length self.new.rest < length self.old.rest) }
+        ensures no_longer { length self.new.rest ≤ length self.old.rest }
     {
         if !self.starts(terminal) {
             return Err(self.refused(RefusalKind::Syntax));
@@ -173,8 +176,8 @@ impl<'a> Cursor<'a> {
             Gives result (λ t v. (at self.old t, v)) (ahead self.old (item terminal ∷ rest))
             (ahead self.new rest) }
         ensures taken { IfOk result (λ t. tokens_at self.old ≡ at self.old t ∷ tokens_at self.new) }
-        ensures shorter { OnOk result (length self.new.rest.now < length self.old.rest.now) }
-        ensures no_longer { length self.new.rest.now ≤ length self.old.rest.now }
+        ensures shorter { OnOk result (length self.new.rest < length self.old.rest) }
+        ensures no_longer { length self.new.rest ≤ length self.old.rest }
         ensures text { self.new.text.now ≡ self.old.text.now }
     {
         if !self.starts(terminal) {
@@ -191,7 +194,7 @@ impl<'a> Cursor<'a> {
         if !self.starts(Terminal::Word) {
             return false;
         }
-        first_text(self.text, self.rest) == keyword.text()
+        self.first_text() == keyword.text()
     }
 
     /// Whether no token is left.
@@ -205,21 +208,24 @@ impl<'a> Cursor<'a> {
         }
     }
 
-    /// Whether a token follows the next one, and is no colon. Nowhere else does the reader look
-    /// past the next token.
+    /// Whether a token follows the next one, and is no colon.
     fn no_colon_follows(&self) -> bool
         ensures { result ≡ no_colon (behind_first (tokens_at self.now)) }
     {
-        let mut behind = Cursor {
-            text: self.text,
-            rest: self.rest,
-            operators: self.operators,
-        };
-        behind.advance();
-        if behind.is_done() {
-            return false;
+        match self.rest.second() {
+            None => false,
+            Some(token) => !is_colon(terminal_of(self.text, token)),
         }
-        !behind.starts(Terminal::Colon)
+    }
+
+    /// What the grammar takes the token after the next one for.
+    pub fn look_behind(&self) -> Terminal
+        ensures { result ≡ first_terminal (behind_first (tokens_at self.now)) }
+    {
+        match self.rest.second() {
+            None => Terminal::EndOfText,
+            Some(token) => terminal_of(self.text, token),
+        }
     }
 
     /// Whether the word FOR stands next, and no colon after it.
@@ -249,7 +255,7 @@ impl<'a> Cursor<'a> {
         ensures reads { (rest : List Need) →
             Gives result (λ _ v. v) (ahead self.old (keyword_need keyword ∷ rest))
             (ahead self.new rest) }
-        ensures no_longer { length self.new.rest.now ≤ length self.old.rest.now }
+        ensures no_longer { length self.new.rest ≤ length self.old.rest }
     {
         if !self.at_keyword(keyword) {
             return Err(self.refused(RefusalKind::Syntax));

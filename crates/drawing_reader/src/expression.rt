@@ -9,7 +9,7 @@ ghost use Rattle.drawing_grammar.specs.Grammar.{Need, mark, part, group, fresh, 
 ghost use Rattle.drawing_grammar.specs.Sketch.{less_or, greater_or};
 ghost use Rattle.drawing_grammar.specs.Machine.{Gives, Moves, choice, refusal};
 ghost use Rattle.drawing_reader.specs.Reader.{tokens_at, ahead, Taken};
-ghost use Rattle.drawing_grammar.specs.Front.{first_terminal, first_place};
+ghost use Rattle.drawing_grammar.specs.Front.{first_terminal, first_place, behind_first};
 ghost use Rattle.drawing_reader.specs.Operators.{FactorAt, TermAt, ComparisonAt};
 
 use crate::cursor::{Cursor, text_of};
@@ -59,6 +59,20 @@ fn above(equal: bool) -> Op
     if equal { Op::Ge } else { Op::Gt }
 }
 
+/// Whether an operator between factors begins with this.
+fn multiplies(terminal: Terminal) -> bool
+    ensures { IsFalse result → choice Factors terminal ≡ None }
+{
+    matches!(terminal, Terminal::Star | Terminal::Slash)
+}
+
+/// Whether an operator between terms begins with this.
+fn adds(terminal: Terminal) -> bool
+    ensures { IsFalse result → choice Terms terminal ≡ None }
+{
+    matches!(terminal, Terminal::Plus | Terminal::Minus)
+}
+
 impl<'a> Cursor<'a> {
     /// One more is open, if the limit allows it.
     pub fn deeper(&self, depth: usize) -> Result<usize, Stop>
@@ -85,8 +99,8 @@ impl<'a> Cursor<'a> {
             × (64 ≤ self.old.operators)) }
         ensures shorter { OnOk result
             (first_terminal (tokens_at self.old) ≢ EndOfText →
-            length self.new.rest.now < length self.old.rest.now) }
-        ensures no_longer { length self.new.rest.now ≤ length self.old.rest.now }
+            length self.new.rest < length self.old.rest) }
+        ensures no_longer { length self.new.rest ≤ length self.old.rest }
     {
         if self.operators >= LIMIT {
             return Err(self.refused(RefusalKind::TooDeep));
@@ -99,8 +113,8 @@ impl<'a> Cursor<'a> {
     fn factor_operator(&mut self) -> Result<Option<Op>, Stop>
         ensures reads { FactorAt result self.old self.new }
         ensures shorter { IfOk result (λ o.
-            IfSome o (λ _. length self.new.rest.now < length self.old.rest.now)) }
-        ensures no_longer { length self.new.rest.now ≤ length self.old.rest.now }
+            IfSome o (λ _. length self.new.rest < length self.old.rest)) }
+        ensures no_longer { length self.new.rest ≤ length self.old.rest }
     {
         match self.look() {
             Terminal::Star => {
@@ -118,8 +132,8 @@ impl<'a> Cursor<'a> {
     fn term_operator(&mut self) -> Result<Option<Op>, Stop>
         ensures reads { TermAt result self.old self.new }
         ensures shorter { IfOk result (λ o.
-            IfSome o (λ _. length self.new.rest.now < length self.old.rest.now)) }
-        ensures no_longer { length self.new.rest.now ≤ length self.old.rest.now }
+            IfSome o (λ _. length self.new.rest < length self.old.rest)) }
+        ensures no_longer { length self.new.rest ≤ length self.old.rest }
     {
         match self.look() {
             Terminal::Plus => {
@@ -139,7 +153,7 @@ impl<'a> Cursor<'a> {
         ensures reads { (n : ℕ) (rest : List Need) →
             Moves (ahead self.old (part OrEqual n ∷ rest))
             (ahead self.new rest) (λ v. (result, v)) }
-        ensures no_longer { length self.new.rest.now ≤ length self.old.rest.now }
+        ensures no_longer { length self.new.rest ≤ length self.old.rest }
     {
         if !self.starts(Terminal::Equals) {
             return false;
@@ -150,7 +164,7 @@ impl<'a> Cursor<'a> {
 
     fn comparison(&mut self) -> Result<Option<Op>, Stop>
         ensures reads { ComparisonAt result self.old self.new }
-        ensures no_longer { length self.new.rest.now ≤ length self.old.rest.now }
+        ensures no_longer { length self.new.rest ≤ length self.old.rest }
     {
         match self.look() {
             Terminal::Equals => {
@@ -180,7 +194,7 @@ impl<'a> Cursor<'a> {
     fn unary(&mut self, alloc: Global, depth: usize) -> Result<Expr, Stop>
         ensures reads { (rest : List Need) → Gives result (λ e v.
             (expression_of e, v)) (ahead self.old (part Unary depth ∷ rest)) (ahead self.new rest) }
-        ensures no_longer { length self.new.rest.now ≤ length self.old.rest.now }
+        ensures no_longer { length self.new.rest ≤ length self.old.rest }
     {
         match self.look() {
             Terminal::Number => {
@@ -214,7 +228,7 @@ impl<'a> Cursor<'a> {
         ensures reads { (rest : List Need) → Gives result (λ e v.
             (expression_of e, v)) (ahead self.old (group Product depth ∷ rest))
             (ahead self.new rest) }
-        ensures no_longer { length self.new.rest.now ≤ length self.old.rest.now }
+        ensures no_longer { length self.new.rest ≤ length self.old.rest }
     {
         let mut left = self.unary(alloc, depth)?;
         'factors: while let Some(op) = self.factor_operator()? {
@@ -228,7 +242,7 @@ impl<'a> Cursor<'a> {
     fn sum(&mut self, alloc: Global, depth: usize) -> Result<Expr, Stop>
         ensures reads { (rest : List Need) → Gives result (λ e v.
             (expression_of e, v)) (ahead self.old (group Sum depth ∷ rest)) (ahead self.new rest) }
-        ensures no_longer { length self.new.rest.now ≤ length self.old.rest.now }
+        ensures no_longer { length self.new.rest ≤ length self.old.rest }
     {
         let mut left = self.product(alloc, depth)?;
         'terms: while let Some(op) = self.term_operator()? {
@@ -243,7 +257,7 @@ impl<'a> Cursor<'a> {
         ensures reads { (rest : List Need) → Gives result (λ e v.
             (expression_of e, v)) (ahead self.old (group Whole depth ∷ rest))
             (ahead self.new rest) }
-        ensures no_longer { length self.new.rest.now ≤ length self.old.rest.now }
+        ensures no_longer { length self.new.rest ≤ length self.old.rest }
     {
         let left = self.sum(alloc, depth)?;
         match self.comparison()? {
@@ -255,27 +269,15 @@ impl<'a> Cursor<'a> {
         }
     }
 
-    /// Whether an operator between factors stands here.
-    fn at_factor_operator(&self) -> bool
-        ensures { IsFalse result → choice Factors (first_terminal (tokens_at self.now)) ≡ None }
-    {
-        matches!(self.look(), Terminal::Star | Terminal::Slash)
-    }
-
-    /// Whether an operator between terms stands here.
-    fn at_term_operator(&self) -> bool
-        ensures { IsFalse result → choice Terms (first_terminal (tokens_at self.now)) ≡ None }
-    {
-        matches!(self.look(), Terminal::Plus | Terminal::Minus)
-    }
-
-    /// Whether an operator between the operands of a sum stands here.
-    fn at_operator(&self) -> bool
+    /// Whether an operator between the operands of a sum stands after the next token.
+    fn operator_follows(&self) -> bool
         ensures factors { IsFalse result →
-            choice Factors (first_terminal (tokens_at self.now)) ≡ None }
-        ensures terms { IsFalse result → choice Terms (first_terminal (tokens_at self.now)) ≡ None }
+            choice Factors (first_terminal (behind_first (tokens_at self.now))) ≡ None }
+        ensures terms { IsFalse result →
+            choice Terms (first_terminal (behind_first (tokens_at self.now))) ≡ None }
     {
-        self.at_factor_operator() || self.at_term_operator()
+        let terminal = self.look_behind();
+        multiplies(terminal) || adds(terminal)
     }
 
     /// Takes a number that is all of a sum, as it is of most.
@@ -286,17 +288,15 @@ impl<'a> Cursor<'a> {
         ensures none { IfNone result ((rest : List Need) →
             Moves (ahead self.old (group Sum 0 ∷ rest))
             (ahead self.new (group Sum 0 ∷ rest)) (λ v. v)) }
-        ensures no_longer { length self.new.rest.now ≤ length self.old.rest.now }
+        ensures no_longer { length self.new.rest ≤ length self.old.rest }
     {
         if !self.starts(Terminal::Number) {
             return None;
         }
-        let rest = self.rest;
-        let token = self.bump();
-        if self.at_operator() {
-            self.rest = rest;
+        if self.operator_follows() {
             return None;
         }
+        let token = self.bump();
         Some(token)
     }
 
@@ -305,7 +305,7 @@ impl<'a> Cursor<'a> {
         ensures reads { (rest : List Need) → Gives result (λ e v.
             (expression_of e, v)) (ahead self.old (fresh ∷ group Sum 0 ∷ rest))
             (ahead self.new rest) }
-        ensures no_longer { length self.new.rest.now ≤ length self.old.rest.now }
+        ensures no_longer { length self.new.rest ≤ length self.old.rest }
     {
         self.operators = 0;
         if let Some(token) = self.lone_number() {
@@ -320,7 +320,7 @@ impl<'a> Cursor<'a> {
         ensures reads { (rest : List Need) →
             Gives result (λ x v. (expression_of x.0, (expression_of x.1, v)))
             (ahead self.old (own_sum (mark Terminal.Colon ∷ own_sum rest))) (ahead self.new rest) }
-        ensures no_longer { length self.new.rest.now ≤ length self.old.rest.now }
+        ensures no_longer { length self.new.rest ≤ length self.old.rest }
     {
         let min = self.own_sum(alloc)?;
         self.mark(Terminal::Colon)?;
@@ -333,7 +333,7 @@ impl<'a> Cursor<'a> {
         ensures reads { (rest : List Need) → Gives result (λ e v.
             (expression_of e, v)) (ahead self.old (fresh ∷ group Whole 0 ∷ rest))
             (ahead self.new rest) }
-        ensures no_longer { length self.new.rest.now ≤ length self.old.rest.now }
+        ensures no_longer { length self.new.rest ≤ length self.old.rest }
     {
         self.operators = 0;
         let whole = self.whole(alloc, 0)?;

@@ -9,6 +9,7 @@
 
 // tokens
 mod cursor;
+mod rest;
 
 // what the grammar reads, from the least part to the whole text
 mod cases;

@@ -28,7 +28,7 @@ impl<'a> Cursor<'a> {
         ensures reads { (rest : List Need) →
             Gives result (λ x v. (record { item = formal_of x.0; place = x.1 }, v))
             (ahead self.old (part FormalPart 0 ∷ rest)) (ahead self.new rest) }
-        ensures no_longer { length self.new.rest.now ≤ length self.old.rest.now }
+        ensures no_longer { length self.new.rest ≤ length self.old.rest }
     {
         if !self.starts(Terminal::Name) {
             return Err(self.refused(RefusalKind::Syntax));
@@ -48,7 +48,7 @@ impl<'a> Cursor<'a> {
         ensures reads { (rest : List Need) →
             Gives result (λ x v. (record { items = map formal_of x.0; places = x.1 }, v))
             (ahead self.old (group SomeFormals 0 ∷ rest)) (ahead self.new rest) }
-        ensures no_longer { length self.new.rest.now ≤ length self.old.rest.now }
+        ensures no_longer { length self.new.rest ≤ length self.old.rest }
     {
         let (first, place) = self.formal(alloc)?;
         let mut all = Formals::new(alloc);
@@ -68,7 +68,7 @@ impl<'a> Cursor<'a> {
         ensures reads { (rest : List Need) →
             Gives result (λ x v. (record { items = map formal_of x.0; places = x.1 }, v))
             (ahead self.old (group FormalsGroup 0 ∷ rest)) (ahead self.new rest) }
-        ensures no_longer { length self.new.rest.now ≤ length self.old.rest.now }
+        ensures no_longer { length self.new.rest ≤ length self.old.rest }
     {
         if !self.starts(Terminal::Name) {
             return Ok((Formals::new(alloc), Places::new(alloc)));
@@ -84,7 +84,7 @@ impl<'a> Cursor<'a> {
             (record { items = map formal_of x.0; places = x.1 }, v))
             (ahead self.old (mark Terminal.OpenParenthesis ∷
             group FormalsGroup 0 ∷ mark Terminal.CloseParenthesis ∷ rest)) (ahead self.new rest) }
-        ensures no_longer { length self.new.rest.now ≤ length self.old.rest.now }
+        ensures no_longer { length self.new.rest ≤ length self.old.rest }
     {
         self.mark(Terminal::OpenParenthesis)?;
         let all = self.formals(alloc)?;
@@ -96,7 +96,7 @@ impl<'a> Cursor<'a> {
         ensures reads { (rest : List Need) →
             Gives result (λ x v. (record { items = map formal_of x.0; places = x.1 }, v))
             (ahead self.old (part FormalOutputs 0 ∷ rest)) (ahead self.new rest) }
-        ensures no_longer { length self.new.rest.now ≤ length self.old.rest.now }
+        ensures no_longer { length self.new.rest ≤ length self.old.rest }
     {
         if !self.starts(Terminal::Arrow) {
             return Ok((Formals::new(alloc), Places::new(alloc)));
@@ -122,7 +122,7 @@ impl<'a> Cursor<'a> {
             (ahead self.old (part Parameters 0 ∷ mark Terminal.OpenParenthesis
             ∷ group FormalsGroup 0 ∷ mark Terminal.CloseParenthesis ∷ part FormalOutputs 0 ∷ rest))
             (ahead self.new rest) }
-        ensures no_longer { length self.new.rest.now ≤ length self.old.rest.now }
+        ensures no_longer { length self.new.rest ≤ length self.old.rest }
     {
         let (params, parameters) = self.parameters(alloc)?;
         let (ins, in_places) = self.formal_inputs(alloc)?;
@@ -139,8 +139,8 @@ impl<'a> Cursor<'a> {
         ensures reads { (rest : List Need) →
             Gives result (λ x v. (record { macro = macro_of x.0; head = x.1 }, v))
             (ahead self.old (part (MacroPart edition) 0 ∷ rest)) (ahead self.new rest) }
-        ensures shorter { OnOk result (length self.new.rest.now < length self.old.rest.now) }
-        ensures no_longer { length self.new.rest.now ≤ length self.old.rest.now }
+        ensures shorter { OnOk result (length self.new.rest < length self.old.rest) }
+        ensures no_longer { length self.new.rest ≤ length self.old.rest }
     {
         if !self.starts(Terminal::Macro) {
             return Err(self.refused(RefusalKind::Syntax));
@@ -169,7 +169,7 @@ impl<'a> Cursor<'a> {
         ensures reads { (rest : List Need) →
             Gives result (λ x v. (record { macros = map macro_of x.0; heads = x.1 }, v))
             (ahead self.old (group (MacrosGroup edition) 0 ∷ rest)) (ahead self.new rest) }
-        ensures no_longer { length self.new.rest.now ≤ length self.old.rest.now }
+        ensures no_longer { length self.new.rest ≤ length self.old.rest }
     {
         let mut all = MacroDefs::new(alloc);
         let mut heads = List::new(alloc);

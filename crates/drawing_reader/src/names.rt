@@ -1,17 +1,17 @@
 //! The names of a text.
 
-ghost use Rattle.std.specs.Prelude.{◌≡◌, ◌↔◌, ◌∷◌, [], IsTrue, IfOk, IfErr, MatchResult, MatchOption, false};
+ghost use Rattle.std.specs.Prelude.{◌≡◌, ◌↔◌, List, ◌∷◌, ◌++◌, [], map, IsTrue, IfOk, OnOk, MatchResult, MatchOption, false};
 ghost use Rattle.assertion_syntax.specs.Name.{IsBase, is_base_byte};
 ghost use Rattle.scald_base.specs.Fitting.{Fits};
 ghost use Rattle.drawing_grammar.specs.Lexeme.{lexeme_of, lexemes, terminal};
-ghost use Rattle.drawing_reader.specs.Known.{IsKnown};
-ghost use Rattle.drawing_grammar.specs.Names.{named, names_at, head_behind, names_from, IsPlain, MayStand, IsNameFault, IsGood, AreGood, IsNameStop};
+ghost use Rattle.drawing_reader.specs.Sifted.{IsAgain, Sifted, Sifting, naming_of};
+ghost use Rattle.drawing_grammar.specs.Names.{Naming, named, names_at, head_behind, names_from, IsPlain, MayStand, IsNameFault, IsGood, AreGood, IsNameStop};
 
 use crate::cursor::{terminal_of, text_of};
 use crate::signal::unquoted;
 use assertion_syntax::{NameEnd, NameFault, SignalName, fits, read_name};
 use drawing_grammar::Terminal;
-use scald_base::{AssertSpec, Header, Place, RefusalKind, Stop};
+use scald_base::{AssertSpec, Header, List, NoMemory, Place, RefusalKind, Stop};
 use scald_lex::{PackedToken, Token};
 use std::alloc::Global;
 
@@ -81,102 +81,132 @@ fn is_bare(text: &[u8]) -> bool
     after_byte
 }
 
-/// Whether a name outside of a head is the one that is known.
-fn is_again(text: &[u8], of_formal: bool, known: &[u8]) -> bool
-    ensures { IsTrue result → (of_formal ≡ false) × (known.now ≡ text.now) }
-{
-    if of_formal {
-        return false;
-    }
-    known == text
+/// A name that its bytes alone do not show to be good, and whether it is a formal's.
+#[derive(Clone, Copy)]
+pub struct Doubtful<'a> {
+    pub text: &'a [u8],
+    pub of_formal: bool,
+    pub place: Place,
 }
 
-/// Whether a text is of a name that may stand there. `known` is of a name that may stand outside of
-/// a head, and so is the answer: where the text was read, it is the text.
-fn judge<'a>(
-    alloc: Global,
+/// Whether a name is the same again, both outside of heads.
+fn is_same_outside(last: &Doubtful, text: &[u8], of_formal: bool) -> bool
+    ensures { IsTrue result → (last.now.of_formal ≡ false) × (of_formal ≡ false)
+        × (last.now.text.now ≡ text.now) }
+{
+    if last.of_formal || of_formal {
+        return false;
+    }
+    last.text == text
+}
+
+/// Whether a name is the last of these again, outside of heads.
+fn is_again(doubtful: &[Doubtful], text: &[u8], of_formal: bool) -> bool
+    ensures { IsTrue result → IsAgain (map naming_of doubtful.now) text.now of_formal }
+{
+    match doubtful.last() {
+        Some(last) => is_same_outside(last, text, of_formal),
+        None => false,
+    }
+}
+
+/// Keeps a name, unless its bytes show that it is good, or that it is if those before are. So a
+/// clock that stands again is not kept again.
+fn sift<'a>(
+    doubtful: &mut List<Doubtful<'a>>,
     text: &'a [u8],
     of_formal: bool,
     place: Place,
-    known: &'a [u8],
-    header: &Header,
-) -> Result<&'a [u8], Stop>
-    requires { IsKnown header.now known.now }
-    ensures good { MatchResult result (λ _. IsGood header.now (named text.now of_formal place))
-        (IsNameStop header.now (named text.now of_formal place ∷ [])) }
-    ensures known { IfOk result (λ now. IsKnown header.now now.now) }
+) -> Result<(), NoMemory>
+    ensures { OnOk result ((all rest : List Naming) →
+        Sifting (map naming_of doubtful.old) all (named text.now of_formal place ∷ rest) →
+        Sifting (map naming_of doubtful.new) all rest) }
 {
-    // No memory is taken for a name that is seen to be good by its bytes alone, nor for a clock
-    // that stands again.
     if is_bare(text) {
-        return Ok(known);
+        return Ok(());
     }
-    if is_again(text, of_formal, known) {
-        return Ok(known);
+    if is_again(doubtful.as_slice(), text, of_formal) {
+        return Ok(());
     }
-    match read_name(alloc, text) {
-        Ok(name) => match fault(&name, of_formal, header) {
-            None => Ok(text),
-            Some(kind) => Err(Stop::refused(kind, place)),
+    doubtful.push(Doubtful {
+        text,
+        of_formal,
+        place,
+    })?;
+    Ok(())
+}
+
+/// Takes a token, inside or outside of a macro's head, and answers where the next one stands.
+fn sift_token<'a>(
+    doubtful: &mut List<Doubtful<'a>>,
+    text: &'a [u8],
+    token: Token,
+    in_head: bool,
+) -> Result<bool, NoMemory>
+    ensures next { IfOk result (λ next.
+        next ≡ head_behind in_head (terminal (lexeme_of text.now token))) }
+    ensures sifted { OnOk result ((all rest : List Naming) →
+        Sifting (map naming_of doubtful.old) all
+        (names_at in_head (terminal (lexeme_of text.now token)) (lexeme_of text.now token) ++ rest) →
+        Sifting (map naming_of doubtful.new) all rest) }
+{
+    match terminal_of(text, token) {
+        Terminal::Macro => Ok(true),
+        Terminal::Semicolon => Ok(false),
+        Terminal::Name => {
+            sift(
+                doubtful,
+                unquoted(text_of(text, token)),
+                in_head,
+                token.place,
+            )?;
+            Ok(in_head)
+        }
+        _ => Ok(in_head),
+    }
+}
+
+/// The names of a text that may be refused, which are few in most texts.
+pub fn doubtful_names<'a>(
+    alloc: Global,
+    text: &'a [u8],
+    tokens: &[PackedToken],
+) -> Result<List<Doubtful<'a>>, NoMemory>
+    ensures { IfOk result (λ doubtful.
+        Sifted (map naming_of doubtful) (names_from false (lexemes text.now tokens.now))) }
+{
+    let mut doubtful = List::new(alloc);
+    let mut in_head = false;
+    'tokens: for token in tokens {
+        in_head = sift_token(&mut doubtful, text, token.token(), in_head)?;
+    }
+    Ok(doubtful)
+}
+
+/// Whether a name is one that may stand there.
+fn judge(alloc: Global, name: &Doubtful, header: &Header) -> Result<(), Stop>
+    ensures { MatchResult result (λ _. IsGood header.now (naming_of name.now))
+        (IsNameStop header.now (naming_of name.now ∷ [])) }
+{
+    match read_name(alloc, name.text) {
+        Ok(read) => match fault(&read, name.of_formal, header) {
+            None => Ok(()),
+            Some(kind) => Err(Stop::refused(kind, name.place)),
         },
-        Err(NameEnd::BadName) => Err(Stop::refused(RefusalKind::BadName, place)),
+        Err(NameEnd::BadName) => Err(Stop::refused(RefusalKind::BadName, name.place)),
         Err(NameEnd::NoMemory) => Err(Stop::NoMemory),
     }
 }
 
-/// Takes a token, inside or outside of a macro's head, and answers where the next one stands and
-/// what name is known.
-fn judge_token<'a>(
-    alloc: Global,
-    text: &'a [u8],
-    token: Token,
-    in_head: bool,
-    known: &'a [u8],
-    header: &Header,
-) -> Result<(bool, &'a [u8]), Stop>
-    requires { IsKnown header.now known.now }
-    ensures next { IfOk result (λ next.
-        next.0 ≡ head_behind in_head (terminal (lexeme_of text.now token))) }
-    ensures known { IfOk result (λ next. IsKnown header.now next.1.now) }
-    ensures good { IfOk result (λ _.
-        AreGood header.now (names_at in_head (terminal (lexeme_of text.now token))
-        (lexeme_of text.now token))) }
-    ensures refused { IfErr result
-        (IsNameStop header.now (names_at in_head (terminal (lexeme_of text.now token))
-        (lexeme_of text.now token))) }
-{
-    match terminal_of(text, token) {
-        Terminal::Macro => Ok((true, known)),
-        Terminal::Semicolon => Ok((false, known)),
-        Terminal::Name => {
-            let name = unquoted(text_of(text, token));
-            let now = judge(alloc, name, in_head, token.place, known, header)?;
-            Ok((in_head, now))
-        }
-        _ => Ok((in_head, known)),
-    }
-}
-
-/// Whether each name of a text is one that fits the header, and plain if it is a formal's. At
+/// Whether each of these names is one that fits the header, and plain if it is a formal's. At
 /// the first that is not, `BadName` comes if it has not the form of a name, is a formal's and
 /// not plain, or has an interval that does not fit; else `EdgesOverlap`.
-pub fn judged_names(
-    alloc: Global,
-    text: &[u8],
-    tokens: &[PackedToken],
-    header: &Header,
-) -> Result<(), Stop>
-    ensures { MatchResult result (λ _.
-        AreGood header.now (names_from false (lexemes text.now tokens.now)))
-        (IsNameStop header.now (names_from false (lexemes text.now tokens.now))) }
+pub fn judged_names(alloc: Global, names: &[Doubtful], header: &Header) -> Result<(), Stop>
+    ensures { MatchResult result (λ _. AreGood header.now (map naming_of names.now))
+        (IsNameStop header.now (map naming_of names.now)) }
 {
-    let mut in_head = false;
-    // A base alone is a name that may stand anywhere.
-    let mut known: &[u8] = b"A";
-    'tokens: for token in tokens {
-        let (next, now) = judge_token(alloc, text, token.token(), in_head, known, header)?;
-        in_head = next;
-        known = now;
+    'names: for name in names {
+        judge(alloc, name, header)?;
     }
     Ok(())
 }

@@ -17,6 +17,7 @@ ghost use Rattle.drawing_grammar.specs.Draws.{IsStop};
 
 use crate::constants::Constants;
 use crate::cursor::Cursor;
+use crate::rest::Rest;
 use drawing_grammar::{Edition, Head, Keyword, NumberPair, Terminal, WrittenHeader};
 use drawing_tree::{CaseStmts, MacroDefs, Stmts};
 use scald_base::{Bytes, List, Place, RefusalKind, Stop};
@@ -243,19 +244,19 @@ impl<'a> Cursor<'a> {
 }
 
 /// What the tokens of a text stand for, or the first token that is refused: `Syntax` if no text
-/// goes on with it, `TooDeep` if it is beyond a limit.
-pub fn read_sketch(alloc: Global, text: &[u8], tokens: &PackedList) -> Result<Sketch, Stop>
-    requires { AreTokens text.now tokens.now }
-    ensures found { IfOk result (λ found. Reads (lexemes text.now tokens.now) (sketch_of found)) }
-    ensures refused { IfErr result (λ stop. IsStop (lexemes text.now tokens.now) stop) }
-    ensures only_sketch { (s : Sketched) → Reads (lexemes text.now tokens.now) s →
+/// goes on with it, `TooDeep` if it is beyond a limit. The tokens go as they are read.
+pub fn read_sketch(alloc: Global, text: &[u8], tokens: PackedList) -> Result<Sketch, Stop>
+    requires { AreTokens text.now tokens }
+    ensures found { IfOk result (λ found. Reads (lexemes text.now tokens) (sketch_of found)) }
+    ensures refused { IfErr result (λ stop. IsStop (lexemes text.now tokens) stop) }
+    ensures only_sketch { (s : Sketched) → Reads (lexemes text.now tokens) s →
         GivesSketch s result }
-    ensures only_refusal { (r : Refusal) → IsRefused (lexemes text.now tokens.now) r →
+    ensures only_refusal { (r : Refusal) → IsRefused (lexemes text.now tokens) r →
         GivesRefusal r result }
 {
     let mut cursor = Cursor {
         text,
-        rest: tokens.as_slice(),
+        rest: Rest::of(tokens),
         operators: 0,
     };
     let sketch = cursor.text(alloc)?;

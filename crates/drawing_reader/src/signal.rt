@@ -67,8 +67,8 @@ impl<'a> Cursor<'a> {
             (at self.old x.0, v)) (ahead self.old (item Terminal.Word ∷ rest))
             (ahead self.new rest) }
         ensures text { IfOk result (λ x. x.1 ≡ (at self.old x.0).text) }
-        ensures shorter { OnOk result (length self.new.rest.now < length self.old.rest.now) }
-        ensures no_longer { length self.new.rest.now ≤ length self.old.rest.now }
+        ensures shorter { OnOk result (length self.new.rest < length self.old.rest) }
+        ensures no_longer { length self.new.rest ≤ length self.old.rest }
     {
         let token = self.item(Terminal::Word)?;
         let bytes = word(alloc, self.text, token)?;

@@ -33,7 +33,7 @@ impl<'a> Cursor<'a> {
             Gives result (λ x v. (expression_of x.0, (expression_of x.1, v)))
             (ahead self.old (own_sum (mark Terminal.Colon ∷ own_sum (mark close ∷ rest))))
             (ahead self.new rest) }
-        ensures no_longer { length self.new.rest.now ≤ length self.old.rest.now }
+        ensures no_longer { length self.new.rest ≤ length self.old.rest }
     {
         let both = self.two_sums(alloc)?;
         self.mark(close)?;
@@ -45,8 +45,8 @@ impl<'a> Cursor<'a> {
         ensures reads { (e : Version) (n : ℕ) (rest : List Need) → Gives result (λ x v.
             (tree.Wire (wire_of x), v)) (ahead self.old (part (StatementPart e) n ∷ rest))
             (ahead self.new rest) }
-        ensures shorter { OnOk result (length self.new.rest.now < length self.old.rest.now) }
-        ensures no_longer { length self.new.rest.now ≤ length self.old.rest.now }
+        ensures shorter { OnOk result (length self.new.rest < length self.old.rest) }
+        ensures no_longer { length self.new.rest ≤ length self.old.rest }
     {
         let token = self.bump();
         let net = self.net(alloc)?;
@@ -66,7 +66,7 @@ impl<'a> Cursor<'a> {
         ensures reads { (rest : List Need) → Gives result (λ x v. (expression_of x, v))
             (ahead self.old (fresh ∷ group Whole 0 ∷ mark Terminal.Then ∷ rest))
             (ahead self.new rest) }
-        ensures no_longer { length self.new.rest.now ≤ length self.old.rest.now }
+        ensures no_longer { length self.new.rest ≤ length self.old.rest }
     {
         let test = self.own_expression(alloc)?;
         self.mark(Terminal::Then)?;
@@ -78,7 +78,7 @@ impl<'a> Cursor<'a> {
         ensures reads { (rest : List Need) → Gives result (λ _ v.
             v) (ahead self.old (mark Terminal.End ∷ mark Terminal.Semicolon ∷ rest))
             (ahead self.new rest) }
-        ensures no_longer { length self.new.rest.now ≤ length self.old.rest.now }
+        ensures no_longer { length self.new.rest ≤ length self.old.rest }
     {
         self.mark(Terminal::End)?;
         self.mark(Terminal::Semicolon)?;
@@ -91,7 +91,7 @@ impl<'a> Cursor<'a> {
             Gives result (λ x v. (expression_of x.0, (expression_of x.1, v)))
             (ahead self.old (own_sum (keyword To ∷ own_sum (keyword Do ∷ rest))))
             (ahead self.new rest) }
-        ensures no_longer { length self.new.rest.now ≤ length self.old.rest.now }
+        ensures no_longer { length self.new.rest ≤ length self.old.rest }
     {
         let first = self.own_sum(alloc)?;
         self.keyword(Keyword::To)?;
@@ -103,7 +103,7 @@ impl<'a> Cursor<'a> {
     /// The variable of a FOR, and the first and the last value that it takes.
     fn values(&mut self, alloc: Global) -> Result<(Bytes, Expr, Expr), Stop>
         ensures reads { ValuesAt result self.old self.new }
-        ensures no_longer { length self.new.rest.now ≤ length self.old.rest.now }
+        ensures no_longer { length self.new.rest ≤ length self.old.rest }
     {
         let (_, var) = self.next_word(alloc)?;
         self.mark(Terminal::Equals)?;
@@ -117,8 +117,8 @@ impl<'a> Cursor<'a> {
         ensures reads { (rest : List Need) → Gives result (λ x v.
             (statement_of x, v)) (ahead self.old (part (StatementPart edition) depth ∷ rest))
             (ahead self.new rest) }
-        ensures shorter { OnOk result (length self.new.rest.now < length self.old.rest.now) }
-        ensures no_longer { length self.new.rest.now ≤ length self.old.rest.now }
+        ensures shorter { OnOk result (length self.new.rest < length self.old.rest) }
+        ensures no_longer { length self.new.rest ≤ length self.old.rest }
     {
         let inner = self.deeper(depth)?;
         let token = self.bump();
@@ -140,8 +140,8 @@ impl<'a> Cursor<'a> {
         ensures reads { (rest : List Need) → Gives result (λ x v. (statement_of x, v))
             (ahead self.old (part (StatementPart Edition.Second) depth ∷ rest))
             (ahead self.new rest) }
-        ensures shorter { OnOk result (length self.new.rest.now < length self.old.rest.now) }
-        ensures no_longer { length self.new.rest.now ≤ length self.old.rest.now }
+        ensures shorter { OnOk result (length self.new.rest < length self.old.rest) }
+        ensures no_longer { length self.new.rest ≤ length self.old.rest }
     {
         let inner = self.deeper(depth)?;
         let token = self.bump();
@@ -162,8 +162,8 @@ impl<'a> Cursor<'a> {
         ensures reads { (rest : List Need) → Gives result (λ x v.
             (statement_of x, v)) (ahead self.old (part (StatementPart edition) depth ∷ rest))
             (ahead self.new rest) }
-        ensures shorter { OnOk result (length self.new.rest.now < length self.old.rest.now) }
-        ensures no_longer { length self.new.rest.now ≤ length self.old.rest.now }
+        ensures shorter { OnOk result (length self.new.rest < length self.old.rest) }
+        ensures no_longer { length self.new.rest ≤ length self.old.rest }
     {
         if self.at_loop(edition) {
             return self.for_statement(alloc, depth);
@@ -199,7 +199,7 @@ impl<'a> Cursor<'a> {
         ensures reads { (rest : List Need) →
             Gives result (λ x v. (statements_of x.items, v))
             (ahead self.old (body edition rest)) (ahead self.new rest) }
-        ensures no_longer { length self.new.rest.now ≤ length self.old.rest.now }
+        ensures no_longer { length self.new.rest ≤ length self.old.rest }
     {
         self.mark(Terminal::Semicolon)?;
         let all = self.statements(alloc, edition, 0)?;
@@ -212,7 +212,7 @@ impl<'a> Cursor<'a> {
     fn statements(&mut self, alloc: Global, edition: Edition, depth: usize) -> Result<Stmts, Stop>
         ensures reads { (rest : List Need) → Gives result (λ x v. (statements_of x.items, v))
             (ahead self.old (group (StatementsGroup edition) depth ∷ rest)) (ahead self.new rest) }
-        ensures no_longer { length self.new.rest.now ≤ length self.old.rest.now }
+        ensures no_longer { length self.new.rest ≤ length self.old.rest }
     {
         let mut all = Stmts::new(alloc);
         'each: while self.at_statement(edition) {
@@ -232,7 +232,7 @@ impl<'a> Cursor<'a> {
         ensures reads { (rest : List Need) → Gives result (λ x v.
             (else_of x, v)) (ahead self.old (part (OtherwisePart edition) depth ∷ rest))
             (ahead self.new rest) }
-        ensures no_longer { length self.new.rest.now ≤ length self.old.rest.now }
+        ensures no_longer { length self.new.rest ≤ length self.old.rest }
     {
         if !self.starts(Terminal::Else) {
             return Ok(None);

@@ -40,7 +40,7 @@ impl<'a> Cursor<'a> {
         ensures reads { (rest : List Need) →
             Gives result (λ x v. (record { item = assignment_of x.0; place = x.1 }, v))
             (ahead self.old (part AssignPart 0 ∷ rest)) (ahead self.new rest) }
-        ensures no_longer { length self.new.rest.now ≤ length self.old.rest.now }
+        ensures no_longer { length self.new.rest ≤ length self.old.rest }
     {
         if !self.starts(Terminal::Word) {
             return Err(self.refused(RefusalKind::Syntax));
@@ -56,7 +56,7 @@ impl<'a> Cursor<'a> {
         ensures reads { (rest : List Need) →
             Gives result (λ x v. (record { items = map assignment_of x.0; places = x.1 }, v))
             (ahead self.old (group AssignsGroup 0 ∷ rest)) (ahead self.new rest) }
-        ensures no_longer { length self.new.rest.now ≤ length self.old.rest.now }
+        ensures no_longer { length self.new.rest ≤ length self.old.rest }
     {
         let (first, place) = self.assign(alloc)?;
         let mut all = Assigns::new(alloc);
@@ -77,7 +77,7 @@ impl<'a> Cursor<'a> {
         ensures reads { (rest : List Need) →
             Gives result (λ x v. (record { items = map assignment_of x.0; places = x.1 }, v))
             (ahead self.old (part Parameters 0 ∷ rest)) (ahead self.new rest) }
-        ensures no_longer { length self.new.rest.now ≤ length self.old.rest.now }
+        ensures no_longer { length self.new.rest ≤ length self.old.rest }
     {
         if !self.starts(Terminal::OpenBrace) {
             return Ok((Assigns::new(alloc), Places::new(alloc)));
@@ -93,7 +93,7 @@ impl<'a> Cursor<'a> {
         ensures reads { (rest : List Need) → Gives result (λ x v.
             (written_fall_of x, v)) (ahead self.old (part FallPart 0 ∷ rest))
             (ahead self.new rest) }
-        ensures no_longer { length self.new.rest.now ≤ length self.old.rest.now }
+        ensures no_longer { length self.new.rest ≤ length self.old.rest }
     {
         if !self.starts(Terminal::Comma) {
             return Ok(None);
@@ -110,7 +110,7 @@ impl<'a> Cursor<'a> {
             Gives result (λ x v.
             (record { delay = option_map both_of x.delay; fall = written_fall_of x.fall }, v))
             (ahead self.old (part DelayPart 0 ∷ rest)) (ahead self.new rest) }
-        ensures no_longer { length self.new.rest.now ≤ length self.old.rest.now }
+        ensures no_longer { length self.new.rest ≤ length self.old.rest }
     {
         if !self.starts(Terminal::OpenBracket) {
             return Ok(Delays {
@@ -136,7 +136,7 @@ impl<'a> Cursor<'a> {
             (ahead self.old (mark Terminal.OpenParenthesis ∷ group ConnsGroup 0
             ∷ mark Terminal.CloseParenthesis ∷ part Outputs 0 ∷ mark Terminal.Semicolon ∷ rest))
             (ahead self.new rest) }
-        ensures no_longer { length self.new.rest.now ≤ length self.old.rest.now }
+        ensures no_longer { length self.new.rest ≤ length self.old.rest }
     {
         self.mark(Terminal::OpenParenthesis)?;
         let ins = self.connections(alloc)?;
@@ -148,7 +148,7 @@ impl<'a> Cursor<'a> {
 
     fn details(&mut self, alloc: Global) -> Result<Details, Stop>
         ensures reads { DetailsAt result self.old self.new }
-        ensures no_longer { length self.new.rest.now ≤ length self.old.rest.now }
+        ensures no_longer { length self.new.rest ≤ length self.old.rest }
     {
         let delays = self.delays(alloc)?;
         let (params, _) = self.parameters(alloc)?;
@@ -169,8 +169,8 @@ impl<'a> Cursor<'a> {
             at_loop e (tokens_at self.old) ≡ false →
             Gives result (λ x v. (tree.Use (use_of x), v))
             (ahead self.old (part (StatementPart e) n ∷ rest)) (ahead self.new rest) }
-        ensures shorter { OnOk result (length self.new.rest.now < length self.old.rest.now) }
-        ensures no_longer { length self.new.rest.now ≤ length self.old.rest.now }
+        ensures shorter { OnOk result (length self.new.rest < length self.old.rest) }
+        ensures no_longer { length self.new.rest ≤ length self.old.rest }
     {
         let token = self.bump();
         let label = word(alloc, self.text, token)?;

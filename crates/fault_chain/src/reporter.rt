@@ -10,7 +10,7 @@ use crate::lines::{add_chain, add_fault, add_number};
 use drawing_tree::Drawing;
 use fixpoint_engine::{NetSet, Waves};
 use flat_circuit::{Circuit, Fault};
-use listing::{end_report, write_period};
+use listing::{Output, end_report, write_period};
 use program_call::{Reply, Reporter, verdict};
 use scald_base::{Bytes, NoMemory, Outcome};
 use std::alloc::Global;
@@ -106,7 +106,7 @@ impl Reporter for Chains {
         end_report(total, &mut bytes)?;
         Ok(Reply {
             outcome: verdict(total),
-            bytes,
+            bytes: Output::whole(bytes),
         })
     }
 }

@@ -2,7 +2,6 @@
 
 ghost use Rattle.std.specs.Prelude.{◌≡◌, ◌<◌, ◌++◌, ℕ, IfOk, IfSome, OnOk, List, Some, length, map, true};
 ghost use Rattle.std.specs.List.{All};
-ghost use Rattle.std.specs.Option.{option_copied};
 ghost use Rattle.step_values.specs.declared.value.Value.{Value as OfValues};
 ghost use Rattle.skew_algebra.specs.Wave.{Wave};
 ghost use Rattle.fixpoint_engine.specs.Table.{AreKnown, wave_at, waves_at};
@@ -55,13 +54,13 @@ fn for_classes(
 /// The changes of some nets, each for all nets for which its own stands.
 pub fn for_all(
     alloc: Global,
-    classes: Option<&ClassNets>,
+    classes: &Option<ClassNets>,
     changes: &[Change],
 ) -> Result<Vec<Change>, NoMemory>
-    requires { All (λ ch. leads_in (option_copied classes) ch.net ≡ true) changes.now }
+    requires { All (λ ch. leads_in classes.now ch.net ≡ true) changes.now }
     ensures { IfOk result (λ made.
         (read : ℕ → Wave OfValues) → map (λ ch. (ch.net, read ch.number)) made.items
-        ≡ for_all (option_copied classes.entry)
+        ≡ for_all classes.now
         (map (λ ch. (ch.net, read ch.number)) changes.now)) }
 {
     match classes {
@@ -72,15 +71,15 @@ pub fn for_all(
 
 /// Puts the numbers of the new waves in the place of the old ones, for all nets for which those
 /// stand that change.
-pub fn apply_all(numbers: &mut Numbers, classes: Option<&ClassNets>, changes: &[Change])
-    requires each_net { IfSome (option_copied classes) (λ each. length each ≡ length numbers.old) }
+pub fn apply_all(numbers: &mut Numbers, classes: &Option<ClassNets>, changes: &[Change])
+    requires each_net { IfSome classes.now (λ each. length each ≡ length numbers.old) }
     requires exist { All (λ ch. ch.net < length numbers.old) changes.now }
-    requires firsts { All (λ ch. leads_in (option_copied classes) ch.net ≡ true) changes.now }
+    requires firsts { All (λ ch. leads_in classes.now ch.net ≡ true) changes.now }
     ensures known { (table : List (Wave OfValues)) → AreKnown table numbers.old →
         AreKnown table (map (λ ch. ch.number) changes.now) → AreKnown table numbers.new }
     ensures changed { (table : List (Wave OfValues)) → waves_at table numbers.new
         ≡ changed (waves_at table numbers.old)
-        (for_all (option_copied classes.entry)
+        (for_all classes.now
         (map (λ ch. (ch.net, wave_at table ch.number)) changes.now)) }
 {
     match classes {

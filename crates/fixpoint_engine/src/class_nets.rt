@@ -1,7 +1,6 @@
 //! The nets of each class.
 
 ghost use Rattle.std.specs.Prelude.{◌≡◌, ◌<◌, IfOk, Some, length, true};
-ghost use Rattle.std.specs.Option.{option_copied};
 ghost use Rattle.flat_circuit.specs.Alike.{class_of};
 ghost use Rattle.fixpoint_engine.specs.Members.{is_evaluated, last_below, leads_in};
 
@@ -104,8 +103,8 @@ impl ClassNets {
 
 /// Whether a net is evaluated in the rounds in which it is due: it is active and the first of its
 /// class. If there are no classes, each net is one of its own.
-pub fn is_evaluated(active: &NetSet, classes: Option<&ClassNets>, net: u32) -> bool
-    ensures { result ≡ is_evaluated active.now (option_copied classes.entry) net }
+pub fn is_evaluated(active: &NetSet, classes: &Option<ClassNets>, net: u32) -> bool
+    ensures { result ≡ is_evaluated active.now classes.now net }
 {
     match classes {
         Some(classes) => active.has(net) && classes.leads(net),

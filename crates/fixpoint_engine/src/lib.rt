@@ -57,7 +57,7 @@ pub use net_set::NetSet;
 pub use numbers::{Numbers, copied, numbers_of, renumbered};
 pub use pins::{pin_wave, waves_at_pins, wire_behind};
 pub use readers::{output_of, readers_of};
-pub use rounds::{EngineEnd, Settled, settle};
+pub use rounds::{EngineEnd, Settled, Start, settle};
 pub use same_waves::{has_one_wave, has_one_wave_at};
 pub use wave_table::WaveTable;
 pub use waves::Waves;

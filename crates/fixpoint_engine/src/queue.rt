@@ -2,7 +2,6 @@
 
 ghost use Rattle.std.specs.Prelude.{◌≡◌, ◌<◌, ◌==◌, ◌&&◌, [], ℕ, IfOk, IfSome, OnOk, Some, false, length, map, replicate, true};
 ghost use Rattle.std.specs.List.{All};
-ghost use Rattle.std.specs.Option.{option_copied};
 ghost use Rattle.flat_circuit.specs.Instances.{out_at};
 ghost use Rattle.flat_circuit.specs.Circuit.{driver};
 ghost use Rattle.fixpoint_engine.specs.Settled.{FitActive, marked_in};
@@ -15,6 +14,7 @@ ghost use Rattle.fixpoint_engine.specs.Worklist.{Adds, IsQueue, among, drives_in
 use crate::changes::Change;
 use crate::class_nets::{ClassNets, is_evaluated};
 use crate::hearers::Hearers;
+use crate::net_classes::NetClasses;
 use crate::net_set::NetSet;
 use crate::readers::{output_of, readers_of};
 use flat_circuit::Circuit;
@@ -45,14 +45,13 @@ impl Queue {
     pub fn all(
         alloc: Global,
         c: &Circuit,
-        classes: Option<&ClassNets>,
+        classes: &Option<ClassNets>,
         active: &NetSet,
     ) -> Result<Queue, NoMemory>
         requires { FitActive c.now active.now }
         ensures each_net { IfOk result (λ q. length q.marks ≡ length c.now.nets) }
         ensures are { IfOk result (λ q.
-            (i : ℕ) → marked_in q.marks i ≡ is_evaluated active.now
-            (option_copied classes.entry) i) }
+            (i : ℕ) → marked_in q.marks i ≡ is_evaluated active.now classes.now i) }
     {
         let mut queue = Queue {
             nets: Vec::new(alloc),
@@ -101,13 +100,13 @@ impl Queue {
     fn add_output(
         &mut self,
         c: &Circuit,
-        classes: Option<&ClassNets>,
+        classes: &Option<ClassNets>,
         active: &NetSet,
         instance: u32,
     ) -> Result<(), NoMemory>
         requires active { FitActive c.now active.now }
         requires each_net { length self.old.marks ≡ length c.now.nets }
-        ensures { OnOk result (Adds (λ i. is_evaluated active.now (option_copied classes.entry) i
+        ensures { OnOk result (Adds (λ i. is_evaluated active.now classes.now i
             && drives_in (out_at c.now.instances instance) i) self.old self.new) }
     {
         match output_of(c, instance) {
@@ -120,14 +119,14 @@ impl Queue {
     fn add_hearers(
         &mut self,
         c: &Circuit,
-        classes: Option<&ClassNets>,
+        classes: &Option<ClassNets>,
         active: &NetSet,
         net: u32,
     ) -> Result<(), NoMemory>
         requires active { FitActive c.now active.now }
         requires each_net { length self.old.marks ≡ length c.now.nets }
         requires exists { net < length c.now.nets }
-        ensures { OnOk result (Adds (λ i. is_evaluated active.now (option_copied classes.entry) i
+        ensures { OnOk result (Adds (λ i. is_evaluated active.now classes.now i
             && hears_in (λ j. net == j) (driver c.now i)) self.old self.new) }
     {
         c.known();
@@ -203,7 +202,7 @@ impl Queue {
     fn refill(
         &mut self,
         c: &Circuit,
-        classes: Option<&ClassNets>,
+        classes: &Option<ClassNets>,
         active: &NetSet,
         changes: &[Change],
     ) -> Result<(), NoMemory>
@@ -213,7 +212,7 @@ impl Queue {
         ensures each_net { OnOk result (length self.new.marks ≡ length c.now.nets) }
         ensures due { OnOk result
             ((i : ℕ) → marked_in self.new.marks i
-            ≡ (is_evaluated active.now (option_copied classes.entry) i
+            ≡ (is_evaluated active.now classes.now i
             && hears_in (among (map (λ ch. ch.net) changes.now)) (driver c.now i))) }
     {
         self.clear();
@@ -229,29 +228,27 @@ impl Queue {
     pub fn refill_all(
         &mut self,
         c: &Circuit,
-        classes: Option<&ClassNets>,
-        hearers: &Hearers,
+        classes: &NetClasses,
         active: &NetSet,
         changes: &[Change],
     ) -> Result<(), NoMemory>
         requires active { FitActive c.now active.now }
         requires each_net { length self.old.marks ≡ length c.now.nets }
-        requires classes { IfSome (option_copied classes) (λ each.
-            length each ≡ length c.now.nets) }
-        requires hearers { IfSome (option_copied classes) (λ each.
-            AreHearers c.now each hearers.now) }
+        requires classes { IfSome classes.now.nets (λ each. length each ≡ length c.now.nets) }
+        requires hearers { IfSome classes.now.nets (λ each.
+            AreHearers c.now each classes.now.hearers) }
         requires exist { All (λ ch. ch.net < length c.now.nets) changes.now }
-        requires firsts { All (λ ch. leads_in (option_copied classes) ch.net ≡ true) changes.now }
+        requires firsts { All (λ ch. leads_in classes.now.nets ch.net ≡ true) changes.now }
         ensures each_net { OnOk result (length self.new.marks ≡ length c.now.nets) }
         ensures due { OnOk result
             ((i : ℕ) → marked_in self.new.marks i
-            ≡ (is_evaluated active.now (option_copied classes.entry) i
-            && hears_in (is_with_any (option_copied classes.entry) (map (λ ch. ch.net) changes.now))
+            ≡ (is_evaluated active.now classes.now.nets i
+            && hears_in (is_with_any classes.now.nets (map (λ ch. ch.net) changes.now))
             (driver c.now i))) }
     {
-        match classes {
-            Some(classes) => self.refill_firsts(c, classes, hearers, active, changes),
-            None => self.refill(c, None, active, changes),
+        match &classes.nets {
+            Some(nets) => self.refill_firsts(c, nets, &classes.hearers, active, changes),
+            None => self.refill(c, &classes.nets, active, changes),
         }
     }
 }

@@ -2,7 +2,6 @@
 
 ghost use Rattle.std.specs.Prelude.{◌≡◌, ◌+◌, ◌<◌, ◌≤◌, ℕ, IfErr, IfOk, IfSome, MatchOption, false, length, map, take};
 ghost use Rattle.std.specs.List.{All};
-ghost use Rattle.std.specs.Option.{option_copied};
 ghost use Rattle.flat_circuit.specs.Name.{net_at};
 ghost use Rattle.fixpoint_engine.specs.Table.{AreKnown, Grows, waves_at};
 ghost use Rattle.fixpoint_engine.specs.Waves.{FitWaves, waves_of};
@@ -17,9 +16,8 @@ ghost use Rattle.fixpoint_engine.specs.Worklist.{among};
 
 use crate::changes::{Change, changes};
 use crate::class_changes::{apply_all, for_all};
-use crate::class_nets::ClassNets;
-use crate::hearers::Hearers;
 use crate::key::{Constants, Store};
+use crate::net_classes::NetClasses;
 use crate::net_set::NetSet;
 use crate::queue::Queue;
 use crate::{Numbers, copied};
@@ -28,6 +26,17 @@ use scald_base::NoMemory;
 use std::alloc::Global;
 use step_values::Value;
 use wave_core::CyclicWave;
+
+/// What rounds begin with.
+#[derive(Drop)]
+pub struct Start {
+    /// The numbers of the waves of all nets before the first round.
+    pub numbers: Numbers,
+    /// The numbers of the constants' waves.
+    pub constants: Constants,
+    /// The nets that are evaluated.
+    pub active: NetSet,
+}
 
 /// Settled rounds.
 #[derive(Drop)]
@@ -143,46 +152,45 @@ pub fn settle<W: CyclicWave<Item = Value>>(
     alloc: Global,
     c: &Circuit,
     store: &mut Store<W>,
-    constants: Constants,
-    classes: Option<&ClassNets>,
-    hearers: &Hearers,
-    start: &Numbers,
-    active: &NetSet,
+    start: &Start,
+    classes: &NetClasses,
     limit: u32,
 ) -> Result<Settled, EngineEnd>
-    requires constants { AreConstants c.now.header store.old constants }
-    requires known { AreKnown store.old start.now }
-    requires waves { FitWaves c.now (waves_at store.old start.now) }
-    requires active { FitActive c.now active.now }
-    requires hearers { IfSome (option_copied classes) (λ classes.
-        AreHearers c.now classes hearers.now) }
-    requires classes { OneStandsForAll c.now (marked_in active.now)
-        (numbers_in (length c.now.nets) (option_copied classes))
-        (waves_of (waves_at store.old start.now)) }
+    requires constants { AreConstants c.now.header store.old start.now.constants }
+    requires known { AreKnown store.old start.now.numbers }
+    requires waves { FitWaves c.now (waves_at store.old start.now.numbers) }
+    requires active { FitActive c.now start.now.active }
+    requires hearers { IfSome classes.now.nets (λ each.
+        AreHearers c.now each classes.now.hearers) }
+    requires classes { OneStandsForAll c.now (marked_in start.now.active)
+        (numbers_in (length c.now.nets) classes.now.nets)
+        (waves_of (waves_at store.old start.now.numbers)) }
     ensures grows { Grows store.old store.new }
     ensures known { IfOk result (λ s. AreKnown store.new s.numbers) }
-    ensures settled { let first = waves_of (waves_at store.old start.now) in
-        IfOk result (λ s. AreSettled c.now (marked_in active.now) first limit s.rounds
+    ensures settled { let first = waves_of (waves_at store.old start.now.numbers) in
+        IfOk result (λ s. AreSettled c.now (marked_in start.now.active) first limit s.rounds
         (waves_of (waves_at store.new s.numbers))) }
     ensures fit { IfOk result (λ s. FitWaves c.now (waves_at store.new s.numbers)) }
-    ensures work { let first = waves_of (waves_at store.old start.now) in
-        IfOk result (λ s. s.evals ≡ evaluations_to (option_copied classes.entry) c.now
-        (marked_in active.now) (round c.now (marked_in active.now) first) (s.rounds + 1)) }
-    ensures sound { let first = waves_of (waves_at store.old start.now) in
+    ensures work { let first = waves_of (waves_at store.old start.now.numbers) in
+        let active = marked_in start.now.active in
+        IfOk result (λ s. s.evals ≡ evaluations_to classes.now.nets c.now active
+        (round c.now active first) (s.rounds + 1)) }
+    ensures sound { let first = waves_of (waves_at store.old start.now.numbers) in
         IfOk result (λ s. KeepRuns c.now first s.rounds (waves_of (waves_at store.new s.numbers))) }
-    ensures unsettled { let first = waves_of (waves_at store.old start.now) in
-        IfErr result (EndsFor c.now.order (round c.now (marked_in active.now) first) limit) }
+    ensures unsettled { let first = waves_of (waves_at store.old start.now.numbers) in
+        IfErr result
+        (EndsFor c.now.order (round c.now (marked_in start.now.active) first) limit) }
 {
     c.known();
     c.header().known();
     let kept = store.len();
-    let mut numbers = copied(alloc, start.as_slice())?;
-    let mut queue = Queue::all(alloc, c, classes, active)?;
+    let mut numbers = copied(alloc, start.numbers.as_slice())?;
+    let mut queue = Queue::all(alloc, c, &classes.nets, &start.active)?;
     let mut rounds = 0;
     let mut evals = 0;
     'rounds: loop {
         let now = numbers.as_slice();
-        let made = changes(alloc, c, store, constants, now, queue.nets())?;
+        let made = changes(alloc, c, store, start.constants, now, queue.nets())?;
         evals += queue.nets().len() as u64;
         if made.is_empty() {
             return Ok(Settled {
@@ -192,11 +200,11 @@ pub fn settle<W: CyclicWave<Item = Value>>(
             });
         }
         if rounds == limit {
-            let all = for_all(alloc, classes, &made)?;
+            let all = for_all(alloc, &classes.nets, &made)?;
             return Err(unsettled(alloc, c, &all, limit)?);
         }
-        queue.refill_all(c, classes, hearers, active, &made)?;
-        apply_all(&mut numbers, classes, &made);
+        queue.refill_all(c, classes, &start.active, &made)?;
+        apply_all(&mut numbers, &classes.nets, &made);
         numbers = shortened(alloc, store, kept, numbers)?;
         rounds += 1;
     }

@@ -7,4 +7,6 @@ pub mod Wave
 pub mod Fault
 pub mod Case
 pub mod End
+pub mod Output
+pub mod Lines
 pub mod Answer

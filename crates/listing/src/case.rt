@@ -34,7 +34,7 @@ impl Mode {
     }
 
     /// Whether faults are shown.
-    fn shows_faults(self) -> bool
+    pub(crate) fn shows_faults(self) -> bool
         ensures { result ≡ shows_faults self }
     {
         !matches!(self, Mode::Waves)
@@ -95,6 +95,23 @@ fn add_shown_waves<W: CyclicWave<Item = Value>>(
     } else {
         Ok(())
     }
+}
+
+/// The case's own line, and the lines of waves if the mode shows them.
+pub(crate) fn add_case_head<W: CyclicWave<Item = Value>>(
+    kept: &mut Bytes,
+    c: &Circuit,
+    head: CaseHead,
+    waves: &Waves<W>,
+    mode: Mode,
+) -> Result<(), NoMemory>
+    requires { FitWaves c.now waves.now }
+    ensures { let all = waves_of waves.now in OnOk result (kept.new ≡ kept.old
+        ++ (case_line head.number head.base head.rounds head.tick ++ shown_waves c.now mode all)) }
+{
+    add_case(kept, head)?;
+    add_shown_waves(kept, c, waves, mode)?;
+    Ok(())
 }
 
 /// The lines of faults, if the mode shows them.

@@ -153,7 +153,7 @@ pub fn write_unnamed_fault(c: &Circuit, fault: &Fault, out: &mut Bytes) -> Resul
 }
 
 /// The line of a fault.
-fn add_fault(out: &mut Bytes, c: &Circuit, fault: Fault) -> Result<(), NoMemory>
+pub(crate) fn add_fault(out: &mut Bytes, c: &Circuit, fault: Fault) -> Result<(), NoMemory>
     ensures ok { OnOk result (out.new ≡ out.old ++ fault_line c.now fault) }
     ensures err { OnErr result (HasPart out.old out.new (fault_line c.now fault)) }
 {

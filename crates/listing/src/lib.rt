@@ -3,7 +3,8 @@
 //! is refused, rounds do not settle, or the numbers of a report are asked for alone.
 //!
 //! The layer above composes a report of [`begin_report`], [`write_case`] for each case, and
-//! [`end_report`]. Each call appends exactly its lines to the bytes that it is given. `specs/Head`,
+//! [`end_report`]. Each call appends exactly its lines to the bytes that it is given. [`Lines`] are
+//! those of a report of which many lines come again in other cases: each is made and kept once. `specs/Head`,
 //! `specs/Case`, `specs/End` and `specs/Answer` say which lines these are, over `specs/Wave`,
 //! `specs/Run` and `specs/Fault`.
 //!
@@ -22,6 +23,9 @@ mod case;
 mod end;
 mod fault;
 mod head;
+mod known;
+mod lines;
+mod output;
 mod run;
 mod wave;
 
@@ -33,5 +37,7 @@ pub use case::{CaseHead, Mode, write_case};
 pub use end::end_report;
 pub use fault::{write_fault, write_unnamed_fault};
 pub use head::{begin_report, write_period};
+pub use lines::Lines;
 pub use names::{instance_piece, net_piece};
+pub use output::{Output, Part, Parts};
 pub use piece::{Piece, add_line, add_pieces};

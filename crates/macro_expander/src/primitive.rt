@@ -3,7 +3,6 @@
 ghost use Rattle.std.specs.Prelude.{◌≡◌, ◌≤◌, ◌+◌, ◌∷◌, [], map, is_some, option_map, Some};
 ghost use Rattle.std.specs.List.{list_any};
 ghost use Rattle.std.specs.Str.{bytes_eq};
-ghost use Rattle.element_kinds.specs.Kinds.{kind_of};
 ghost use Rattle.drawing_tree.specs.Tree.{assignment_of, connection_of, both_of, use_of};
 ghost use Rattle.macro_expander.specs.Primitives.{parameters_for, fewest_inputs as spec_fewest, most_inputs as spec_most, most_marks as spec_most_marks, takes as spec_takes, are_of, marks as spec_marks, delay_within as spec_delay_within, delay_between as spec_delay_between, written_delay as spec_written_delay, fall_of, split_of as spec_split_of, delays_of as spec_delays_of, takes_delays as spec_takes_delays, setup_and_hold as spec_setup_and_hold, high_and_low as spec_high_and_low, limits_for as spec_limits_for, limits_of as spec_limits_of, are_connected as spec_are_connected, plan_of};
 ghost use Rattle.macro_expander.specs.Steps.{JudgedAt};
@@ -11,7 +10,7 @@ ghost use Rattle.macro_expander.specs.Steps.{JudgedAt};
 use crate::parameter::{comes_again, value_given, values_given};
 use crate::range::{at, value};
 use drawing_tree::{Assigns, Conns, Env, Expr, UseStmt};
-use element_kinds::{Check, Kind, kind_named};
+use element_kinds::{Check, Kind};
 use flat_circuit::{Limits, Split};
 use scald_base::{Delay, RefusalKind, Stop, same_bytes};
 use std::alloc::Global;
@@ -30,13 +29,6 @@ const LONGEST_DELAY: u16 = 4095;
 
 /// The longest rise delay and fall delay, if two are written.
 const LONGEST_SPLIT: u16 = 255;
-
-/// The primitive of a name.
-pub(crate) fn primitive(name: &[u8]) -> Option<Kind>
-    ensures { result ≡ kind_of name.now }
-{
-    kind_named(name)
-}
 
 fn fewest_inputs(kind: Kind) -> usize
     ensures { result ≡ spec_fewest kind }

@@ -12,13 +12,13 @@ use crate::expansion::Expansion;
 use crate::formal::given_to;
 use crate::library::Library;
 use crate::macro_use::inner_scope;
-use crate::primitive::primitive;
 use crate::primitive_use::primitive_use;
 use crate::range::{at, value};
 use crate::scope::Scope;
 use crate::turn::{in_turn, loop_ends, turn_to};
 use crate::wire::wire_bounds;
 use drawing_tree::{Env, ForStmt, IfStmt, MacroDef, Stmt, UseStmt};
+use element_kinds::kind_named;
 use scald_base::{Place, RefusalKind, Stop};
 use std::alloc::Global;
 
@@ -211,7 +211,7 @@ fn expand_use(
         result (use_act (setting_in library.now) (bodies_in library.now levels)
         (use_of used.now) (scope_of (names_in expansion.old) scope.now) (state_of expansion.old)) }
 {
-    if let Some(kind) = primitive(used.kind.as_slice()) {
+    if let Some(kind) = kind_named(used.kind.as_slice()) {
         return primitive_use(expansion, alloc, library, kind, scope, used);
     }
     match library.find(used.kind.as_slice()) {

@@ -5,7 +5,7 @@ use crate::rows::{Rows, lower, unbounded};
 use drawing_tree::Drawing;
 use fixpoint_engine::Waves;
 use flat_circuit::Circuit;
-use listing::write_period;
+use listing::{Output, write_period};
 use program_call::{Reply, Reporter};
 use scald_base::{Bytes, NoMemory, Outcome};
 use std::alloc::Global;
@@ -72,7 +72,7 @@ impl Reporter for Margins {
         add_count(&mut bytes, self.rows.len())?;
         Ok(Reply {
             outcome: Outcome::Done,
-            bytes,
+            bytes: Output::whole(bytes),
         })
     }
 }

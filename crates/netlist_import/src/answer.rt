@@ -9,6 +9,7 @@ use crate::netlist::Netlist;
 use crate::outcome::ImportOutcome;
 use crate::read::{NetlistEnd, NetlistRefusal, read_netlist};
 use itoa::Buffer;
+use listing::Output;
 use program_call::Reply;
 use scald_base::{Bytes, NoMemory};
 use std::alloc::Global;
@@ -80,11 +81,11 @@ pub(crate) fn answer(
     match read_netlist(alloc, text) {
         Ok(netlist) => Ok(Reply {
             outcome: ImportOutcome::Done,
-            bytes: macros(alloc, command, &netlist)?,
+            bytes: Output::whole(macros(alloc, command, &netlist)?),
         }),
         Err(NetlistEnd::Refused(refusal)) => Ok(Reply {
             outcome: ImportOutcome::Refused(refusal),
-            bytes: refusal_line(alloc, refusal)?,
+            bytes: Output::whole(refusal_line(alloc, refusal)?),
         }),
         Err(NetlistEnd::NoMemory) => Err(NoMemory),
     }

@@ -7,7 +7,7 @@ ghost use Rattle.program_call.specs.Program.{asks, most_for};
 
 use crate::program::Program;
 use drawing_omissions::Omissions;
-use scald_base::{Bytes, CallEnd, ReadEnd, Sink, Source, Words, read_all, write_all};
+use scald_base::{Bytes, CallEnd, ReadEnd, Sink, Source, Words, read_all};
 use std::alloc::Global;
 
 /// Answers what the words ask the program for and writes it to the sink.
@@ -36,7 +36,7 @@ pub fn main_call<P: Program, S: Source, K: Sink>(
         Ok(reply) => reply,
         Err(_) => return P::ended(CallEnd::NoMemory),
     };
-    match write_all(sink, reply.bytes.as_slice()) {
+    match reply.bytes.write_to(sink) {
         Ok(()) => reply.outcome,
         Err(_) => P::ended(CallEnd::WriteFault),
     }

@@ -7,7 +7,7 @@ ghost use Rattle.program_call.specs.Ended.{IsEnded};
 use crate::Reply;
 use fixpoint_engine::EngineEnd;
 use flat_circuit::Circuit;
-use listing::{write_refusal, write_unsettled};
+use listing::{Output, write_refusal, write_unsettled};
 use scald_base::{Bytes, NoMemory, Outcome, Refusal};
 use std::alloc::Global;
 
@@ -20,7 +20,7 @@ pub fn refused(alloc: Global, refusal: Refusal) -> Result<Reply<Outcome>, NoMemo
     write_refusal(&refusal, &mut bytes)?;
     Ok(Reply {
         outcome: Outcome::Refused(refusal),
-        bytes,
+        bytes: Output::whole(bytes),
     })
 }
 
@@ -52,6 +52,6 @@ fn unsettled(
     write_unsettled(circuit, net, round, &mut bytes)?;
     Ok(Reply {
         outcome: Outcome::Unsettled { net, round },
-        bytes,
+        bytes: Output::whole(bytes),
     })
 }

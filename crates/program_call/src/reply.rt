@@ -1,10 +1,10 @@
 //! An answer before it is written.
 
-use scald_base::Bytes;
+use listing::Output;
 
 /// An outcome, with the bytes that are written.
 #[derive(Drop, Debug)]
 pub struct Reply<O> {
     pub outcome: O,
-    pub bytes: Bytes,
+    pub bytes: Output,
 }

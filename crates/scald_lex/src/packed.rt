@@ -1,11 +1,11 @@
 //! Tokens in less room: the kind of one is a number of 64 bits.
 
-ghost use Rattle.std.specs.Prelude.{◌≡◌, IfOk};
+ghost use Rattle.std.specs.Prelude.{◌≡◌, ◌++◌, ◌∷◌, [], IfOk, OnOk, OnErr};
 ghost use Rattle.scald_lex.specs.Packed.{HasCode, kind_by};
 
 use crate::piece::GREATEST_NUMBER;
 use crate::token::{Token, TokenKind, TokenList};
-use scald_base::{List, NoMemory, Place};
+use scald_base::{NoMemory, Place};
 use std::alloc::Global;
 use std::marker::Model;
 
@@ -45,8 +45,56 @@ impl Model for PackedToken {
     } };
 }
 
-/// The tokens of a text, the last of which is its end.
-pub type PackedList = List<PackedToken>;
+/// The tokens of a text, the last of which is its end. Contracts see the list of them.
+#[derive(Drop)]
+pub struct PackedList {
+    items: Vec<PackedToken>,
+}
+
+impl Model for PackedList {
+    ghost use Rattle.std.specs.Prelude.{List};
+    ghost use Rattle.scald_lex.specs.declared.token.Token.{Token as Lexed};
+
+    ghost Value = { List Lexed };
+
+    ghost view = { λ l. l.items.items };
+}
+
+impl PackedList {
+    /// No tokens. It needs no allocation yet.
+    pub(crate) fn new(alloc: Global) -> PackedList
+        ensures { result ≡ [] }
+    {
+        PackedList {
+            items: Vec::new(alloc),
+        }
+    }
+
+    /// The tokens as a slice.
+    pub fn as_slice(&self) -> &[PackedToken]
+        ensures { result.now ≡ self.now }
+    {
+        self.items.as_slice()
+    }
+
+    /// The tokens as a vector, which can give its room back.
+    pub fn into_vec(self) -> Vec<PackedToken>
+        ensures { result.items ≡ self }
+    {
+        let PackedList { items } = self;
+        items
+    }
+
+    /// Appends a token. If memory runs out the tokens are as before.
+    #[inline(always)]
+    pub(crate) fn push(&mut self, token: PackedToken) -> Result<(), NoMemory>
+        ensures ok { OnOk result (self.new ≡ self.old ++ token ∷ []) }
+        ensures err { OnErr result (self.new ≡ self.old) }
+    {
+        self.items.push(token)?;
+        Ok(())
+    }
+}
 
 /// The number of a kind.
 #[tactic(auto, unfolding(crate::specs::Packed::kind_by))]

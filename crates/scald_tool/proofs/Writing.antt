@@ -14,6 +14,7 @@ use Rattle.listing.specs.declared.case.Mode.{Mode}
 use Rattle.listing.specs.Head.{head}
 use Rattle.listing.specs.Case.{case_lines}
 use Rattle.listing.specs.End.{last_line}
+use Rattle.listing.specs.Lines.{lines_text}
 use Rattle.timing_analysis.specs.Case.{Listed, Case, faults}
 use Rattle.timing_analysis.specs.Settled.{IsSettledCase, settled_case}
 use Rattle.scald_base.specs.declared.outcome.Outcome.{Outcome}
@@ -42,7 +43,7 @@ module _ (mode : Mode) (version : ℕ) (c : Circuit) (base : ℕ) where
       (ws : List (Wave Value)) (fs : List Fault)
       (cases : List Case) → IsSettledCase c limit base l number rounds tick ws fs →
       after.mode ≡ report.mode → after.base ≡ report.base →
-      after.bytes ≡ report.bytes ++ case_lines c report.mode number report.base rounds tick
+      lines_text after.lines ≡ lines_text report.lines ++ case_lines c report.mode number report.base rounds tick
       (waves_of ws) fs →
       after.total ≡ report.total + length fs →
       HasLines report mode version c base cases →
@@ -50,14 +51,14 @@ module _ (mode : Mode) (version : ℕ) (c : Circuit) (base : ℕ) where
   has_more report after limit l number rounds tick ws fs cases is mode_kept base_kept text count
       has =
       let case : Case = settled_case l rounds ws in
-      let lines : after.bytes ≡ report.bytes ++ case_text mode c base case =
+      let lines : lines_text after.lines ≡ lines_text report.lines ++ case_text mode c base case =
       text
-      ∙ (λ k. report.bytes ++ case_lines c (has.mode_is k) (is.numbered k) (has.base_is k) rounds
+      ∙ (λ k. lines_text report.lines ++ case_lines c (has.mode_is k) (is.numbered k) (has.base_is k) rounds
       (is.printed k) (waves_of ws) (is.found k)) in
       record {
         mode_is = mode_kept ∙ has.mode_is;
         base_is = base_kept ∙ has.base_is;
-        lines = lines_more cases case report.bytes after.bytes has.lines lines;
+        lines = lines_more cases case (lines_text report.lines) (lines_text after.lines) has.lines lines;
         count =
             count
             ∙ (λ k. has.count k + length (is.found k))
@@ -66,7 +67,7 @@ module _ (mode : Mode) (version : ℕ) (c : Circuit) (base : ℕ) where
 
   pub is_reported : (report : Report) (cases : List Case) (o : Outcome) (bytes : List ℕ) →
       o ≡ verdict_of report.total →
-      bytes ≡ report.bytes ++ last_line report.total → HasLines report mode version c base cases →
+      bytes ≡ lines_text report.lines ++ last_line report.total → HasLines report mode version c base cases →
       Reported mode version c base cases o bytes
   is_reported report cases o bytes outcome text has = record {
     outcome = outcome ∙ ap verdict_of has.count;

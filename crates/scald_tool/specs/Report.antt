@@ -1,11 +1,12 @@
 -- The report as a whole.
-use Rattle.std.specs.Prelude.{◌≡◌, ℕ, List, ◌++◌}
+use Rattle.std.specs.Prelude.{◌≡◌, ℕ, ◌≤◌, ◌*◌, List, ◌++◌}
 use Rattle.std.specs.List.{flat_map}
 use Rattle.flat_circuit.specs.Circuit.{Circuit}
 use Rattle.listing.specs.declared.case.Mode.{Mode}
 use Rattle.listing.specs.Head.{head}
 use Rattle.listing.specs.Case.{case_lines}
 use Rattle.listing.specs.End.{last_line}
+use Rattle.listing.specs.Lines.{AreLines, lines_text}
 use Rattle.timing_analysis.specs.Case.{Case, printed_tick, faults, fault_count}
 use Rattle.scald_tool.specs.declared.report.Report.{Report}
 
@@ -26,5 +27,10 @@ pub record HasLines (report : Report) (mode : Mode) (version : ℕ) (c : Circuit
     (cases : List Case) : Type 0 where
   pub mode_is : report.mode ≡ mode
   pub base_is : report.base ≡ base
-  pub lines : report.bytes ≡ head version c ++ flat_map (case_text mode c base) cases
+  pub lines : lines_text report.lines ≡ head version c ++ flat_map (case_text mode c base) cases
   pub count : report.total ≡ fault_count c cases
+
+-- It has lines of this circuit alone, and no more faults than so many cases may have.
+pub record IsReady (report : Report) (c : Circuit) (cases : ℕ) : Type 0 where
+  pub are : AreLines c report.lines
+  pub few : report.total ≤ cases * 458752

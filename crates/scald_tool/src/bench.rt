@@ -8,7 +8,7 @@ use design_gen::generate;
 use drawing_tree::Drawing;
 use fixpoint_engine::Waves;
 use flat_circuit::Circuit;
-use listing::write_summary;
+use listing::{Output, write_summary};
 use program_call::{Omissions, Reply, Reporter, reply_to};
 use run_wave::RunWave;
 use scald_base::{Bytes, NoMemory, Outcome};
@@ -104,7 +104,7 @@ impl Reporter for Numbers {
         )?;
         Ok(Reply {
             outcome: Outcome::Done,
-            bytes,
+            bytes: Output::whole(bytes),
         })
     }
 }

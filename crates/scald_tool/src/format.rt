@@ -6,6 +6,7 @@ ghost use Rattle.drawing_tree.specs.Canonical.{canonical};
 ghost use Rattle.scald_tool.specs.Answer.{Formatted};
 
 use drawing_tree::{Drawing, print_drawing};
+use listing::Output;
 use program_call::{Reply, refused};
 use scald_base::{NoMemory, Outcome, Stop};
 use std::alloc::Global;
@@ -31,6 +32,6 @@ fn formatted(alloc: Global, drawing: &Drawing) -> Result<Reply<Outcome>, NoMemor
     let bytes = print_drawing(alloc, drawing)?;
     Ok(Reply {
         outcome: Outcome::Done,
-        bytes,
+        bytes: Output::whole(bytes),
     })
 }

@@ -1,13 +1,11 @@
 //! A report while it is written, case by case.
 
-ghost use Rattle.std.specs.Prelude.{◌≡◌, ◌++◌, ◌≤◌, ◌*◌};
-
 use drawing_tree::Drawing;
 use fixpoint_engine::Waves;
 use flat_circuit::Circuit;
-use listing::{CaseHead, Mode, begin_report, end_report, write_case};
+use listing::{CaseHead, Lines, Mode};
 use program_call::{Reply, Reporter, verdict};
-use scald_base::{Bytes, NoMemory, Outcome};
+use scald_base::{NoMemory, Outcome};
 use std::alloc::Global;
 use step_values::Value;
 use timing_analysis::SettledCase;
@@ -16,7 +14,7 @@ use wave_core::CyclicWave;
 /// The lines of a report so far, and how many faults the cases in it have.
 #[derive(Drop)]
 pub struct Report {
-    pub bytes: Bytes,
+    pub lines: Lines,
     /// Which lines of a case are shown.
     pub mode: Mode,
     /// The round in which the base settled.
@@ -25,9 +23,8 @@ pub struct Report {
 }
 
 impl Reporter for Report {
-    ghost use Rattle.std.specs.Prelude.{◌≡◌, ◌++◌, ◌≤◌, ◌*◌};
     ghost use Rattle.scald_tool.specs.Answer.{Reported};
-    ghost use Rattle.scald_tool.specs.Report.{HasLines};
+    ghost use Rattle.scald_tool.specs.Report.{HasLines, IsReady};
 
     type Asked = Mode;
 
@@ -39,7 +36,7 @@ impl Reporter for Report {
 
     ghost holds = { HasLines };
 
-    ghost ready = { λ report c cases. report.total ≤ cases * 458752 };
+    ghost ready = { IsReady };
 
     fn keep(_alloc: Global, drawing: &Drawing) -> Result<u8, NoMemory> {
         Ok(drawing.version)
@@ -52,10 +49,10 @@ impl Reporter for Report {
         circuit: &Circuit,
         base: u32,
     ) -> Result<Report, NoMemory> {
-        let mut bytes = Bytes::new(alloc);
-        begin_report(circuit, version, &mut bytes)?;
+        let mut lines = Lines::new(alloc);
+        lines.add_head(circuit, version)?;
         Ok(Report {
-            bytes,
+            lines,
             mode,
             base,
             total: 0,
@@ -64,7 +61,7 @@ impl Reporter for Report {
 
     fn add_case<W: CyclicWave<Item = Value>>(
         &mut self,
-        _alloc: Global,
+        alloc: Global,
         circuit: &Circuit,
         _place: u32,
         case: &SettledCase,
@@ -76,26 +73,20 @@ impl Reporter for Report {
             rounds: case.settled.rounds,
             tick: case.tick,
         };
-        write_case(
-            circuit,
-            head,
-            waves,
-            &case.faults,
-            self.mode,
-            &mut self.bytes,
-        )?;
+        self.lines
+            .add_case(alloc, circuit, head, waves, &case.faults, self.mode)?;
         self.total += case.faults.len() as u32;
         Ok(())
     }
 
-    fn end(self, _alloc: Global, _circuit: &Circuit) -> Result<Reply<Outcome>, NoMemory> {
+    fn end(self, _alloc: Global, circuit: &Circuit) -> Result<Reply<Outcome>, NoMemory> {
         let Report {
-            mut bytes,
+            lines,
             mode: _,
             base: _,
             total,
         } = self;
-        end_report(total, &mut bytes)?;
+        let bytes = lines.end(circuit, total)?;
         Ok(Reply {
             outcome: verdict(total),
             bytes,

@@ -7,6 +7,7 @@ ghost use Rattle.scald_tool.specs.Answer.{Upgrades};
 
 use drawing_tree::Drawing;
 use format_upgrade::upgrade;
+use listing::Output;
 use program_call::{Reply, refused};
 use scald_base::{NoMemory, Outcome, Stop};
 use std::alloc::Global;
@@ -32,6 +33,6 @@ fn upgraded(alloc: Global, drawing: &Drawing) -> Result<Reply<Outcome>, NoMemory
     let bytes = upgrade(alloc, drawing)?;
     Ok(Reply {
         outcome: Outcome::Done,
-        bytes,
+        bytes: Output::whole(bytes),
     })
 }

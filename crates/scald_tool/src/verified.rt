@@ -43,7 +43,11 @@ pub fn verify_text<W: CyclicWave<Item = Value>>(
         Ok(reply) => reply,
         Err(_) => return Outcome::NoMemory,
     };
-    match out.extend(reply.bytes.as_slice()) {
+    let bytes = match reply.bytes.joined(alloc) {
+        Ok(bytes) => bytes,
+        Err(_) => return Outcome::NoMemory,
+    };
+    match out.extend(bytes.as_slice()) {
         Ok(()) => reply.outcome,
         Err(_) => Outcome::NoMemory,
     }

@@ -17,6 +17,7 @@ use crate::report::{Report, bad_section, refused, unsettled};
 use crate::{Broken, Piece, Section, first_broken, read_section, sections_of};
 use fixpoint_engine::EngineEnd;
 use flat_circuit::Circuit;
+use listing::Output;
 use program_call::Reply;
 use run_wave::RunWave;
 use scald_base::{Bytes, List, NoMemory, Refusal, Stop};
@@ -61,7 +62,7 @@ fn bad_count(alloc: Global, count: u32) -> Reply<SectionsOutcome>
 {
     Reply {
         outcome: SectionsOutcome::BadCount(count),
-        bytes: Bytes::new(alloc),
+        bytes: Output::whole(Bytes::new(alloc)),
     }
 }
 

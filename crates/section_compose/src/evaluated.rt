@@ -15,7 +15,7 @@ ghost use Rattle.section_compose.specs.Rules.{circuits};
 use crate::{Section, crosses_into};
 use case_analysis::{default_limit, driven_nets, reach, start_numbers, tick};
 use fixpoint_engine::{
-    EngineEnd, NetClasses, Numbers, Settled, Store, Waves, constant_numbers, settle,
+    EngineEnd, NetClasses, Numbers, Settled, Start, Store, Waves, constant_numbers, settle,
 };
 use flat_circuit::{Case, CaseList, CaseValue, Circuit, Faults};
 use pin_waves::wide_wave;
@@ -151,17 +151,18 @@ fn settled<W: CyclicWave<Item = Value>>(
     c.known();
     c.header().known();
     let constants = constant_numbers(alloc, c.header(), store)?;
-    let start = section_start(alloc, c, store, &case)?;
+    let numbers = section_start(alloc, c, store, &case)?;
     let active = driven_nets(alloc, c)?;
     let limit = default_limit(c);
     let mut cases: CaseList = List::new(alloc);
     cases.push(case)?;
     let classes = NetClasses::of(alloc, c, &cases)?;
-    let nets = classes.nets.as_ref();
-    let hearers = &classes.hearers;
-    settle(
-        alloc, c, store, constants, nets, hearers, &start, &active, limit,
-    )
+    let start = Start {
+        numbers,
+        constants,
+        active,
+    };
+    settle(alloc, c, store, &start, &classes, limit)
 }
 
 /// A settled section, with its faults. `Unsettled` comes if it does not settle within its limit

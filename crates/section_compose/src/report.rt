@@ -18,7 +18,7 @@ use crate::{Broken, Rule, Section};
 use fixpoint_engine::Waves;
 use flat_circuit::Circuit;
 use listing::{
-    CaseHead, Mode, Piece, add_line, begin_report, end_report, net_piece, write_case,
+    CaseHead, Mode, Output, Piece, add_line, begin_report, end_report, net_piece, write_case,
     write_refusal, write_unsettled,
 };
 use program_call::Reply;
@@ -126,7 +126,7 @@ impl Report {
         end_report(total, &mut bytes)?;
         Ok(Reply {
             outcome: SectionsOutcome::verdict(total),
-            bytes,
+            bytes: Output::whole(bytes),
         })
     }
 }
@@ -164,7 +164,7 @@ pub fn refused(
     write_refusal(&refusal, &mut bytes)?;
     Ok(Reply {
         outcome: SectionsOutcome::Refused { section, refusal },
-        bytes,
+        bytes: Output::whole(bytes),
     })
 }
 
@@ -191,7 +191,7 @@ pub fn unsettled(
             net,
             round,
         },
-        bytes,
+        bytes: Output::whole(bytes),
     })
 }
 
@@ -264,6 +264,6 @@ pub fn bad_section(
             rule: broken.rule.number(),
             net: broken.net,
         },
-        bytes,
+        bytes: Output::whole(bytes),
     })
 }

@@ -20,6 +20,7 @@ use critical_paths::View;
 use fixpoint_engine::{NetSet as InstanceSet, Waves, waves_at_pins};
 use flat_circuit::{Circuit, Instance};
 use gate_eval::hold_fault;
+use listing::Output;
 use program_call::{Reply, verdict};
 use scald_base::{Bytes, NoMemory, Outcome};
 use slack_rows::Rows;
@@ -218,6 +219,6 @@ pub fn reply(
     let bytes = text(alloc, circuit, part, lines, counts)?;
     Ok(Reply {
         outcome: verdict(broken as u32),
-        bytes,
+        bytes: Output::whole(bytes),
     })
 }

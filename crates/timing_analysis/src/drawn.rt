@@ -33,7 +33,7 @@ pub fn read_text(alloc: Global, text: &[u8]) -> Result<Drawing, Stop>
         Ok(tokens) => tokens,
         Err(stop) => return Err(stop),
     };
-    match read_drawing(alloc, text, &tokens) {
+    match read_drawing(alloc, text, tokens) {
         Ok(drawing) => Ok(drawing),
         Err(stop) => Err(stop),
     }

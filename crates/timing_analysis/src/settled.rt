@@ -21,7 +21,7 @@ ghost use Rattle.timing_analysis.specs.Subject.{IsSubject};
 
 use crate::case_faults::{KnownFaults, faults, faults_again, known_faults};
 use crate::subject::Subject;
-use case_analysis::{base, case_waves, tick};
+use case_analysis::{AllCases, base, case_waves, tick};
 use fixpoint_engine::{EngineEnd, Numbers, Settled, Store, Waves};
 use flat_circuit::{Circuit, Faults};
 use scald_base::NoMemory;
@@ -125,13 +125,16 @@ impl Subject {
             IfErr result (λ e. e ≡ EngineEnd.NoMemory) }
     {
         settled_base.shorten(alloc)?;
+        let cases = AllCases {
+            list: &self.cases,
+            classes: &self.classes,
+            reached: &self.reached,
+        };
         let settled = case_waves(
             alloc,
             &self.circuit,
             &mut settled_base.store,
-            &self.cases,
-            &self.classes,
-            self.reached.as_ref(),
+            &cases,
             &settled_base.base,
             place,
             limit,

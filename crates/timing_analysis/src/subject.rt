@@ -20,7 +20,7 @@ pub struct Subject {
     pub cases: CaseList,
     /// The classes of its nets, by which rounds go.
     pub classes: NetClasses,
-    /// The nets that each of its cases reaches, where all set the same nets.
+    /// The nets that each of its cases reaches, if all set the same nets.
     pub reached: Option<Reached>,
     /// How many ticks later than a round the next one holds.
     pub reach: u32,

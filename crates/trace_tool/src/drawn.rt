@@ -12,6 +12,7 @@ use crate::outcome::TraceOutcome;
 use crate::replies::{refused, silent};
 use crate::{Trace, write_trace};
 use flat_circuit::{Case, CaseList, Circuit};
+use listing::Output;
 use macro_expander::expanded;
 use program_call::Reply;
 use scald_base::{Bytes, NoMemory, Stop};
@@ -123,7 +124,7 @@ fn run_in(
     let bytes = written(alloc, name, c, &trace, asked.format)?;
     Ok(Reply {
         outcome: TraceOutcome::Done,
-        bytes,
+        bytes: Output::whole(bytes),
     })
 }
 

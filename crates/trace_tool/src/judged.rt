@@ -13,6 +13,7 @@ use crate::replies::{refused, silent};
 use crate::verdict::{add_break, add_inputs, add_no_run, add_run, outcome_of};
 use crate::{Trace, TraceFault, first_break, first_stray, read_trace, split_trace};
 use flat_circuit::Circuit;
+use listing::Output;
 use program_call::Reply;
 use scald_base::{Bytes, NoMemory, Stop};
 use std::alloc::Global;
@@ -79,7 +80,7 @@ fn judge_trace(
             add_no_run(&mut bytes, c, tick, net)?;
             Ok(Reply {
                 outcome: TraceOutcome::NotRun,
-                bytes,
+                bytes: Output::whole(bytes),
             })
         }
         None => judge_run(alloc, c, &choice, trace.ticks, bits, from),
@@ -109,6 +110,6 @@ fn judge_run(
     add_break(&mut bytes, c, found)?;
     Ok(Reply {
         outcome: outcome_of(found),
-        bytes,
+        bytes: Output::whole(bytes),
     })
 }

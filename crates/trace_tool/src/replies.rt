@@ -4,7 +4,7 @@ ghost use Rattle.std.specs.Prelude.{◌≡◌, [], IfOk};
 ghost use Rattle.listing.specs.Answer.{refusal_line};
 
 use crate::outcome::TraceOutcome;
-use listing::write_refusal;
+use listing::{Output, write_refusal};
 use program_call::Reply;
 use scald_base::{Bytes, NoMemory, Refusal};
 use std::alloc::Global;
@@ -18,7 +18,7 @@ pub fn refused(alloc: Global, refusal: Refusal) -> Result<Reply<TraceOutcome>, N
     write_refusal(&refusal, &mut bytes)?;
     Ok(Reply {
         outcome: TraceOutcome::Refused(refusal),
-        bytes,
+        bytes: Output::whole(bytes),
     })
 }
 
@@ -29,6 +29,6 @@ pub fn silent(alloc: Global, outcome: TraceOutcome) -> Reply<TraceOutcome>
 {
     Reply {
         outcome,
-        bytes: Bytes::new(alloc),
+        bytes: Output::whole(Bytes::new(alloc)),
     }
 }

@@ -14,5 +14,5 @@ returns c =
     (c.new-notes.ensures ∙ (λ k. record { bytes = before k; count = 0 }))
     c.in_ok-add_single.ensures c.in_ok-add_drawn.ensures c.in_ok-add_paths.ensures
     (c.verdict.ensures ∙ ap verdict_of c.count-count.ensures)
-    (c.in_ok-add_count.ensures ∙ ap (λ (b : List ℕ). b ++ count_line c.count-count.result) c.into_bytes-bytes.ensures
+    (c.whole.ensures ∙ c.in_ok-add_count.ensures ∙ ap (λ (b : List ℕ). b ++ count_line c.count-count.result) c.into_bytes-bytes.ensures
     ∙ ap (λ n. notes.bytes ++ count_line n) c.count-count.ensures)

@@ -1,43 +1,28 @@
-use Rattle.std.proofs.Common.{◌≡◌, ◌∙◌, false, ◌+◌, get_or, drop, refl, subst}
-use Rattle.std.proofs.lemmas.List.{get_or_default}
+use Rattle.std.proofs.Common.{List, drop, map, ap}
+use Rattle.std.proofs.lemmas.List.{drop_all}
 use Rattle.std.proofs.lemmas.Result.{err_from_is_err_and}
-use Rattle.drawing_grammar.specs.Lexeme.{lexeme_of, lexemes, terminal}
-use Rattle.scald_lex.specs.declared.token.Token as lex
-use Rattle.drawing_grammar.specs.Names.{AreGood, IsNameStop, names_at, head_behind, names_from}
-use Rattle.drawing_reader.proofs.Bare.{first_known}
-use Rattle.drawing_reader.proofs.Naming.{blank_token, next_names, no_names, judged_start, judged_on, judged_end, judged_stop}
+use Rattle.drawing_reader.specs.declared.names.Doubtful.{Doubtful}
+use Rattle.drawing_reader.specs.Sifted.{naming_of}
+use Rattle.drawing_reader.proofs.Naming.{judged_start, judged_end}
+use Rattle.drawing_reader.proofs.Sifting.{judged_next, stopped_next}
 use Rattle.drawing_reader.proofs.names.judged_names.Goals as goal
 
-pub returns-in_err-next : goal.returns-in_err-next
-returns-in_err-next c =
+pub returns-in_err-judge : goal.returns-in_err-judge
+returns-in_err-judge c =
     let p = err_from_is_err_and c.from_residual.result c.from_residual.ensures.1 in
-    let text = c.args.text.now in let ts = c.args.tokens.now in let i = c.tokens.token-index in let head = c.tokens.in_head in
-    let t = lexeme_of text (get_or ts i blank_token) in
-    let same = c.token.ensures ∙ c.token-item.is ∙ get_or_default ts i c.token-item.result blank_token c.tokens-test.true in
-    rw (p.1, p.2) (judged_stop c.args.header.now (names_from false (lexemes text ts)) (names_from head (lexemes text (drop i ts)))
-    (names_at head (terminal t) t) (names_from (head_behind head (terminal t)) (lexemes text (drop (i + 1) ts)))
-    c.in_err-next.field-0.0 c.tokens.invariant.0 (next_names text ts i head (head_behind head (terminal t)) c.tokens-test.true refl)
-    (subst (λ (k : lex.Token). IsNameStop c.args.header.now (names_at head (terminal (lexeme_of text k)) (lexeme_of text k)) c.in_err-next.field-0.0)
-    same c.in_err-next.ensures.refused))
+    rw (p.1, p.2) (stopped_next c.args.header.now c.args.names.now c.names.name-index _
+    c.in_err-judge.field-0.0 c.names-test.true c.in_err-judge.ensures c.names.invariant)
 
-pub tokens-init : goal.tokens-init
-tokens-init c = (judged_start c.args.header.now (names_from false (lexemes c.args.text.now c.args.tokens.now)), first_known c.args.header.now)
+pub names-init : goal.names-init
+names-init c = judged_start c.args.header.now (map naming_of c.args.names.now)
 
-pub tokens-preserved : goal.tokens-preserved
-tokens-preserved c =
-    let text = c.args.text.now in let ts = c.args.tokens.now in let i = c.tokens.token-index in let head = c.tokens.in_head in
-    let same = c.token.ensures ∙ c.token-item.is ∙ get_or_default ts i c.token-item.result blank_token c.tokens-test.true in
-    let t = lexeme_of text (get_or ts i blank_token) in (
-      judged_on c.args.header.now (names_from false (lexemes text ts)) (names_from head (lexemes text (drop i ts)))
-          (names_at head (terminal t) t) (names_from c.in_ok-next.next (lexemes text (drop (i + 1) ts)))
-          c.tokens.invariant.0 (next_names text ts i head c.in_ok-next.next c.tokens-test.true
-          (subst (λ (k : lex.Token). c.in_ok-next.next ≡ head_behind head (terminal (lexeme_of text k))) same c.in_ok-next.ensures.next))
-          (subst (λ (k : lex.Token). AreGood c.args.header.now (names_at head (terminal (lexeme_of text k)) (lexeme_of text k)))
-          same c.in_ok-next.ensures.good),
-      c.in_ok-next.ensures.known,
-    )
+pub names-preserved : goal.names-preserved
+names-preserved c =
+    judged_next c.args.header.now c.args.names.now c.names.name-index _ c.names-test.true
+    c.in_ok-judge.ensures c.names.invariant
 
 pub returns : goal.returns
 returns c =
-    let text = c.args.text.now in let ts = c.args.tokens.now in let i = c.tokens.token-index in let head = c.tokens.in_head in
-    judged_end c.args.header.now (names_from false (lexemes text ts)) (names_from head (lexemes text (drop i ts))) c.tokens.invariant.0 (no_names text ts i head c.tokens-test.false)
+    let ns = c.args.names.now in let i = c.names.name-index in
+    judged_end c.args.header.now (map naming_of ns) (map naming_of (drop i ns)) c.names.invariant
+    (ap (λ (xs : List Doubtful). map naming_of xs) (drop_all i ns c.names-test.false))

@@ -1,8 +1,8 @@
-use Rattle.std.proofs.Common.{false, drop}
-use Rattle.drawing_grammar.specs.Lexeme.{lexemes}
-use Rattle.drawing_grammar.specs.Names.{names_from, Judged}
-use Rattle.drawing_reader.specs.Known.{IsKnown}
+use Rattle.std.proofs.Common.{drop, map}
+use Rattle.drawing_grammar.specs.Names.{Judged}
+use Rattle.drawing_reader.specs.Sifted.{naming_of}
 use Rattle.drawing_reader.proofs.names.judged_names.Given as goal
 
-abbrev pub invariant-tokens : goal.invariant-tokens
-invariant-tokens l = Judged l.header (names_from false (lexemes l.text l.tokens)) (names_from l.in_head (lexemes l.text (drop l.token-index l.tokens))) × IsKnown l.header l.known
+abbrev pub invariant-names : goal.invariant-names
+invariant-names l =
+    Judged l.header (map naming_of l.names) (map naming_of (drop l.name-index l.names))

@@ -1,7 +1,6 @@
 use Rattle.std.proofs.Common.{◌≡◌, ◌∙◌, ◌+◌, ◌<◌, ◌&&◌, List, ℕ, map, length, ap, subst, sym, refl}
 use Rattle.std.proofs.Common.{arith, true}
 use Rattle.std.specs.Prelude.{IfSome}
-use Rattle.std.specs.Option.{option_copied}
 use Rattle.std.proofs.lemmas.List.Elements.{All-same}
 use Rattle.scald_base.specs.Time.{period}
 use Rattle.fixpoint_engine.specs.Table.{AreKnown, wave_at, waves_at}
@@ -30,12 +29,12 @@ rounds-init g c = record {
   constants = c.requires.constants;
   known = subst (AreKnown c.args.store.now) (sym (c.in_ok-numbers.ensures ∙ c.as_slice.ensures))
       c.requires.known;
-  kept = kept_start c.args.c.now (marked_in c.args.active.now)
-      (numbers_in (length c.args.c.now.nets) (option_copied c.args.classes))
-      (waves_at c.args.store.now c.args.start.now)
+  kept = kept_start c.args.c.now (marked_in c.args.start.now.active)
+      (numbers_in (length c.args.c.now.nets) c.args.classes.now.nets)
+      (waves_at c.args.store.now c.args.start.now.numbers)
       (waves_at c.args.store.now c.in_ok-numbers.numbers) c.in_ok-queue.queue
-      (is_evaluated c.args.active.now (option_copied c.args.classes)) c.requires.waves
-      (λ i. evaluated_first c.args.c.now c.args.active.now (option_copied c.args.classes) i
+      (is_evaluated c.args.start.now.active c.args.classes.now.nets) c.requires.waves
+      (λ i. evaluated_first c.args.c.now c.args.start.now.active c.args.classes.now.nets i
       c.requires.active c.requires.classes.each_net)
       (ap (waves_at c.args.store.now) (c.in_ok-numbers.ensures ∙ c.as_slice.ensures))
       c.in_ok-queue.ensures.each_net c.in_ok-queue.ensures.are;
@@ -46,9 +45,9 @@ pub changes-requires-clause-exist : goal.changes-requires-clause-exist
 changes-requires-clause-exist g c =
     All-same (λ net. net < length c.args.c.now.nets) c.nets.result.now c.rounds.queue.nets
     c.nets.ensures.nets
-    (waiting_exist c.args.c.now (marked_in c.args.active.now)
-    (numbers_in (length c.args.c.now.nets) (option_copied c.args.classes))
-    (waves_of (waves_at c.args.store.now c.args.start.now)) c.requires.classes
+    (waiting_exist c.args.c.now (marked_in c.args.start.now.active)
+    (numbers_in (length c.args.c.now.nets) c.args.classes.now.nets)
+    (waves_of (waves_at c.args.store.now c.args.start.now.numbers)) c.requires.classes
     (waves_at c.rounds.store c.rounds.numbers)
     c.rounds.queue c.rounds.rounds c.rounds.evals c.rounds.invariant.kept c.nets.ensures.once)
 
@@ -63,15 +62,15 @@ changes-requires-clause-fit g c =
 
 pub changes-requires-clause-constants : goal.changes-requires-clause-constants
 changes-requires-clause-constants g c =
-    constants_still c.args.c.now.header c.args.store.now c.rounds.store c.args.constants
+    constants_still c.args.c.now.header c.args.store.now c.rounds.store c.args.start.now.constants
     c.rounds.invariant.grows c.requires.constants
 
 pub returns-then-is_empty-clause-settled : goal.returns-then-is_empty-clause-settled
 returns-then-is_empty-clause-settled g c =
-    let active = marked_in c.args.active.now in
-    let classes = option_copied c.args.classes in
+    let active = marked_in c.args.start.now.active in
+    let classes = c.args.classes.now.nets in
     let numbers = numbers_in (length c.args.c.now.nets) classes in
-    let start = waves_of (waves_at c.args.store.now c.args.start.now) in
+    let start = waves_of (waves_at c.args.store.now c.args.start.now.numbers) in
     let waves = waves_at c.rounds.store c.rounds.numbers in
     let made : List Change =
     map (λ ch. (ch.net, wave_at c.changes.new.store ch.number)) c.in_ok-made.made.items in
@@ -95,10 +94,10 @@ returns-then-is_empty-clause-settled g c =
 
 pub returns-then-is_empty-clause-work : goal.returns-then-is_empty-clause-work
 returns-then-is_empty-clause-work g c =
-    let active = marked_in c.args.active.now in
-    let classes = option_copied c.args.classes in
+    let active = marked_in c.args.start.now.active in
+    let classes = c.args.classes.now.nets in
     let numbers = numbers_in (length c.args.c.now.nets) classes in
-    let start = waves_of (waves_at c.args.store.now c.args.start.now) in
+    let start = waves_of (waves_at c.args.store.now c.args.start.now.numbers) in
     let waves = waves_at c.rounds.store c.rounds.numbers in
     let made : List Change =
     map (λ ch. (ch.net, wave_at c.changes.new.store ch.number)) c.in_ok-made.made.items in
@@ -123,20 +122,20 @@ returns-then-is_empty-clause-sound g c =
     (let two = c.known-2.ensures.shortest in omega (arith, two)) in
     let same = same_waves c.rounds.store c.changes.new.store c.in_ok-made.ensures.grows
     c.rounds.numbers c.rounds.invariant.known in
-    subst (λ ws. KeepRuns c.args.c.now (waves_of (waves_at c.args.store.now c.args.start.now))
+    subst (λ ws. KeepRuns c.args.c.now (waves_of (waves_at c.args.store.now c.args.start.now.numbers))
     c.rounds.rounds (waves_of ws)) (sym same)
-    (keeps c.args.c.now (marked_in c.args.active.now)
-    (numbers_in (length c.args.c.now.nets) (option_copied c.args.classes))
-    (waves_of (waves_at c.args.store.now c.args.start.now)) c.requires.classes
+    (keeps c.args.c.now (marked_in c.args.start.now.active)
+    (numbers_in (length c.args.c.now.nets) c.args.classes.now.nets)
+    (waves_of (waves_at c.args.store.now c.args.start.now.numbers)) c.requires.classes
     (waves_at c.rounds.store c.rounds.numbers) c.rounds.queue
     c.rounds.rounds c.rounds.evals c.rounds.invariant.kept c.known.ensures some
     c.requires.waves.each_slot)
 
 pub for_all-requires : goal.for_all-requires
 for_all-requires g c =
-    let active = marked_in c.args.active.now in
-    let classes = option_copied c.args.classes in
-    let start = waves_of (waves_at c.args.store.now c.args.start.now) in
+    let active = marked_in c.args.start.now.active in
+    let classes = c.args.classes.now.nets in
+    let start = waves_of (waves_at c.args.store.now c.args.start.now.numbers) in
     let waves = waves_at c.rounds.store c.rounds.numbers in
     let firsts = c.in_ok-made.ensures.made
     ∙ ap (λ ns. changes_of c.args.c.now (waves_of (waves_at c.rounds.store ns))
@@ -151,10 +150,10 @@ for_all-requires g c =
 
 pub unsettled-requires-clause-exist : goal.unsettled-requires-clause-exist
 unsettled-requires-clause-exist g c =
-    let active = marked_in c.args.active.now in
-    let classes = option_copied c.args.classes in
+    let active = marked_in c.args.start.now.active in
+    let classes = c.args.classes.now.nets in
     let numbers = numbers_in (length c.args.c.now.nets) classes in
-    let start = waves_of (waves_at c.args.store.now c.args.start.now) in
+    let start = waves_of (waves_at c.args.store.now c.args.start.now.numbers) in
     let waves = waves_at c.rounds.store c.rounds.numbers in
     let firsts = c.in_ok-made.ensures.made
     ∙ ap (λ ns. changes_of c.args.c.now (waves_of (waves_at c.rounds.store ns))
@@ -178,10 +177,10 @@ unsettled-requires-clause-exist g c =
 
 pub unsettled-requires-clause-some : goal.unsettled-requires-clause-some
 unsettled-requires-clause-some g c =
-    let active = marked_in c.args.active.now in
-    let classes = option_copied c.args.classes in
+    let active = marked_in c.args.start.now.active in
+    let classes = c.args.classes.now.nets in
     let numbers = numbers_in (length c.args.c.now.nets) classes in
-    let start = waves_of (waves_at c.args.store.now c.args.start.now) in
+    let start = waves_of (waves_at c.args.store.now c.args.start.now.numbers) in
     let waves = waves_at c.rounds.store c.rounds.numbers in
     let made : List Change =
     map (λ ch. (ch.net, wave_at c.changes.new.store ch.number)) c.in_ok-made.made.items in
@@ -204,10 +203,10 @@ unsettled-requires-clause-some g c =
 
 pub returns-then-rounds-limit-clause-unsettled : goal.returns-then-rounds-limit-clause-unsettled
 returns-then-rounds-limit-clause-unsettled g c =
-    let active = marked_in c.args.active.now in
-    let classes = option_copied c.args.classes in
+    let active = marked_in c.args.start.now.active in
+    let classes = c.args.classes.now.nets in
     let numbers = numbers_in (length c.args.c.now.nets) classes in
-    let start = waves_of (waves_at c.args.store.now c.args.start.now) in
+    let start = waves_of (waves_at c.args.store.now c.args.start.now.numbers) in
     let waves = waves_at c.rounds.store c.rounds.numbers in
     let firsts = c.in_ok-made.ensures.made
     ∙ ap (λ ns. changes_of c.args.c.now (waves_of (waves_at c.rounds.store ns))
@@ -230,15 +229,15 @@ returns-then-rounds-limit-clause-unsettled g c =
 
 pub refill_all-requires-clause-classes : goal.refill_all-requires-clause-classes
 refill_all-requires-clause-classes g c =
-    let classes = option_copied c.args.classes in
+    let classes = c.args.classes.now.nets in
     each_numbered (length c.args.c.now.nets) classes c.requires.classes.each_net
 
 pub refill_all-requires-clause-exist : goal.refill_all-requires-clause-exist
 refill_all-requires-clause-exist g c =
-    let active = marked_in c.args.active.now in
-    let classes = option_copied c.args.classes in
+    let active = marked_in c.args.start.now.active in
+    let classes = c.args.classes.now.nets in
     let numbers = numbers_in (length c.args.c.now.nets) classes in
-    let start = waves_of (waves_at c.args.store.now c.args.start.now) in
+    let start = waves_of (waves_at c.args.store.now c.args.start.now.numbers) in
     let waves = waves_at c.rounds.store c.rounds.numbers in
     let firsts = c.in_ok-made.ensures.made
     ∙ ap (λ ns. changes_of c.args.c.now (waves_of (waves_at c.rounds.store ns))
@@ -253,9 +252,9 @@ refill_all-requires-clause-exist g c =
 
 pub refill_all-requires-clause-firsts : goal.refill_all-requires-clause-firsts
 refill_all-requires-clause-firsts g c =
-    let active = marked_in c.args.active.now in
-    let classes = option_copied c.args.classes in
-    let start = waves_of (waves_at c.args.store.now c.args.start.now) in
+    let active = marked_in c.args.start.now.active in
+    let classes = c.args.classes.now.nets in
+    let start = waves_of (waves_at c.args.store.now c.args.start.now.numbers) in
     let waves = waves_at c.rounds.store c.rounds.numbers in
     let firsts = c.in_ok-made.ensures.made
     ∙ ap (λ ns. changes_of c.args.c.now (waves_of (waves_at c.rounds.store ns))
@@ -270,17 +269,17 @@ refill_all-requires-clause-firsts g c =
 
 pub apply_all-requires-clause-each_net : goal.apply_all-requires-clause-each_net
 apply_all-requires-clause-each_net g c =
-    let classes = option_copied c.args.classes in
+    let classes = c.args.classes.now.nets in
     subst (λ (n : ℕ). IfSome classes (λ each. length each ≡ n))
     (sym (each_number c.args.c.now c.rounds.store c.rounds.numbers c.rounds.invariant.kept.fit))
     (each_numbered (length c.args.c.now.nets) classes c.requires.classes.each_net)
 
 pub apply_all-requires-clause-exist : goal.apply_all-requires-clause-exist
 apply_all-requires-clause-exist g c =
-    let active = marked_in c.args.active.now in
-    let classes = option_copied c.args.classes in
+    let active = marked_in c.args.start.now.active in
+    let classes = c.args.classes.now.nets in
     let numbers = numbers_in (length c.args.c.now.nets) classes in
-    let start = waves_of (waves_at c.args.store.now c.args.start.now) in
+    let start = waves_of (waves_at c.args.store.now c.args.start.now.numbers) in
     let waves = waves_at c.rounds.store c.rounds.numbers in
     let firsts = c.in_ok-made.ensures.made
     ∙ ap (λ ns. changes_of c.args.c.now (waves_of (waves_at c.rounds.store ns))
@@ -298,9 +297,9 @@ apply_all-requires-clause-exist g c =
 
 pub apply_all-requires-clause-firsts : goal.apply_all-requires-clause-firsts
 apply_all-requires-clause-firsts g c =
-    let active = marked_in c.args.active.now in
-    let classes = option_copied c.args.classes in
-    let start = waves_of (waves_at c.args.store.now c.args.start.now) in
+    let active = marked_in c.args.start.now.active in
+    let classes = c.args.classes.now.nets in
+    let start = waves_of (waves_at c.args.store.now c.args.start.now.numbers) in
     let waves = waves_at c.rounds.store c.rounds.numbers in
     let firsts = c.in_ok-made.ensures.made
     ∙ ap (λ ns. changes_of c.args.c.now (waves_of (waves_at c.rounds.store ns))
@@ -356,10 +355,10 @@ shortened-requires g c =
 
 pub rounds-preserved : goal.rounds-preserved
 rounds-preserved g c =
-    let active = marked_in c.args.active.now in
-    let classes = option_copied c.args.classes in
+    let active = marked_in c.args.start.now.active in
+    let classes = c.args.classes.now.nets in
     let numbers = numbers_in (length c.args.c.now.nets) classes in
-    let start = waves_of (waves_at c.args.store.now c.args.start.now) in
+    let start = waves_of (waves_at c.args.store.now c.args.start.now.numbers) in
     let waves = waves_at c.rounds.store c.rounds.numbers in
     let made : List Change =
     map (λ ch. (ch.net, wave_at c.changes.new.store ch.number)) c.in_ok-made.made.items in
@@ -393,7 +392,7 @@ rounds-preserved g c =
           c.nets.result.now all c.nets.ensures.once c.nets.ensures.nets
           (ap (for_all classes) firsts))
           (waves_at c.shortened.new.store c.in_ok-numbers-2.numbers) c.refill_all.new.self
-          c.nets-in-rounds.result.now (is_evaluated c.args.active.now classes) c.known.ensures
+          c.nets-in-rounds.result.now (is_evaluated c.args.start.now.active classes) c.known.ensures
           some c.requires.waves.each_slot
           c.nets-in-rounds.ensures.nets
           (some_for_all (length c.args.c.now.nets) classes made c.requires.classes.each_net
@@ -404,15 +403,15 @@ rounds-preserved g c =
           (some_made (λ ch. (ch.net, wave_at c.changes.new.store ch.number)) c.in_ok-made.made.items
           _ c.in_ok-made.made.ok.0 c.if-is_empty.ensures))
           after c.in_ok-refill_all.ensures.each_net
-          (λ i. evaluated_first c.args.c.now c.args.active.now classes i c.requires.active
+          (λ i. evaluated_first c.args.c.now c.args.start.now.active classes i c.requires.active
           c.requires.classes.each_net)
           (λ i. c.in_ok-refill_all.ensures.due i
-          ∙ ap (λ (nets : List ℕ). is_evaluated c.args.active.now classes i && hears_in
+          ∙ ap (λ (nets : List ℕ). is_evaluated c.args.start.now.active classes i && hears_in
           (is_with_any classes nets) (driver c.args.c.now i))
           (nets_made (λ ch. (ch.net, wave_at c.changes.new.store ch.number)) (λ ch. ch.net)
           c.in_ok-made.made.items c.deref-in-rounds.result.now (λ ch. refl)
           c.deref-in-rounds.ensures.value)
-          ∙ ap (λ b. is_evaluated c.args.active.now classes i && b)
+          ∙ ap (λ b. is_evaluated c.args.start.now.active classes i && b)
           (heard_for_all c.args.c.now classes made i c.known.ensures
           c.requires.classes.each_net));
       within = omega (arith, c.rounds.invariant.within, c.if-rounds-limit.false);

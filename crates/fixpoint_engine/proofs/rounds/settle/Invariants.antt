@@ -1,5 +1,4 @@
 use Rattle.std.proofs.Common.{◌≡◌, ◌-◌, ◌≤◌, length}
-use Rattle.std.specs.Option.{option_copied}
 use Rattle.fixpoint_engine.specs.Table.{AreKnown, Grows, waves_at}
 use Rattle.fixpoint_engine.specs.Waves.{waves_of}
 use Rattle.fixpoint_engine.specs.Key.{AreConstants}
@@ -13,10 +12,10 @@ abbrev pub invariant-rounds : goal.invariant-rounds
 invariant-rounds g l = record {
   grows : Grows l.initial.store l.store;
   counted : l.kept ≡ length l.initial.store;
-  constants : AreConstants l.c.header l.initial.store l.constants;
+  constants : AreConstants l.c.header l.initial.store l.start.constants;
   known : AreKnown l.store l.numbers;
-  kept : Kept l.c (marked_in l.active) (numbers_in (length l.c.nets) (option_copied l.classes))
-      (waves_of (waves_at l.initial.store l.start))
+  kept : Kept l.c (marked_in l.start.active) (numbers_in (length l.c.nets) l.classes.nets)
+      (waves_of (waves_at l.initial.store l.start.numbers))
       (waves_at l.store l.numbers) l.queue l.rounds l.evals;
   within : l.rounds ≤ l.limit;
 }

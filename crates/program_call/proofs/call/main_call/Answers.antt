@@ -26,19 +26,19 @@ returns-in-Err-reply g c =
     (asked.steady (λ e. absurd (cc e))) c.ended-in-Err-reply.result c.ended-in-Err-reply.ensures
     refl
 
-pub returns-in-Ok-write_all : goal.returns-in-Ok-write_all
-returns-in-Ok-write_all g c =
+pub returns-in-Ok-write_to : goal.returns-in-Ok-write_to
+returns-in-Ok-write_to g c =
     let d = devices g.S.Source.left g.S.Source.faults g.K.Sink.taken g.K.Sink.faults in
     let asked = c.in-Ok.ensures in
     replied_whole g.P.Program.meaning c.laws.ensures g.P.Program.promised c.args.words.now d
     c.args.source.now c.asked.new.source
-    c.args.sink.now c.write_all.new.sink c.in-Ok.asked.0 c.in-Ok.asked.1 asked.form asked.all
+    c.args.sink.now c.write_to.new.sink c.in-Ok.asked.0 c.in-Ok.asked.1 asked.form asked.all
     asked.short asked.unread asked.front
     (asked.steady (λ e. absurd (cc e))) c.as_slice.result.now c.in-Ok-reply.reply.outcome
-    c.in-Ok-reply.reply.bytes c.as_slice-2.result.now
-    c.as_slice.ensures c.in-Ok-reply.ensures.is c.as_slice-2.ensures c.in-Ok-reply.ensures.promised
-    c.in-Ok-write_all.ensures.ok
-    c.in-Ok-write_all.ensures.faults.steady
+    c.in-Ok-reply.reply.bytes c.in-Ok-reply.reply.bytes
+    c.as_slice.ensures c.in-Ok-reply.ensures.is refl c.in-Ok-reply.ensures.promised
+    c.in-Ok-write_to.ensures.ok
+    c.in-Ok-write_to.ensures.faults.steady
 
 pub returns : goal.returns
 returns g c =
@@ -46,10 +46,10 @@ returns g c =
     let asked = c.in-Ok.ensures in
     ended_writing g.P.Program.meaning c.laws.ensures g.P.Program.promised c.args.words.now d
     c.args.source.now c.asked.new.source
-    c.args.sink.now c.write_all.new.sink c.in-Ok.asked.0 c.in-Ok.asked.1 asked.form asked.all
+    c.args.sink.now c.write_to.new.sink c.in-Ok.asked.0 c.in-Ok.asked.1 asked.form asked.all
     asked.short asked.unread asked.front
     (asked.steady (λ e. absurd (cc e))) c.as_slice.result.now c.in-Ok-reply.reply.outcome
-    c.in-Ok-reply.reply.bytes c.as_slice-2.result.now
-    c.as_slice.ensures c.in-Ok-reply.ensures.is c.as_slice-2.ensures c.ended-in-Err-write_all.result
-    c.ended-in-Err-write_all.ensures c.in-Err-write_all.ensures.err
-    c.in-Err-write_all.ensures.faults.failed
+    c.in-Ok-reply.reply.bytes c.in-Ok-reply.reply.bytes
+    c.as_slice.ensures c.in-Ok-reply.ensures.is refl c.ended-in-Err-write_to.result
+    c.ended-in-Err-write_to.ensures c.in-Err-write_to.ensures.err
+    c.in-Err-write_to.ensures.faults.failed

@@ -1,4 +1,4 @@
-use Rattle.std.proofs.Common.{inr, ap, subst, ℕ, Option}
+use Rattle.std.proofs.Common.{inr, ap, subst, ◌∙◌, ℕ, Option}
 use Rattle.scald_tool.specs.declared.words.Command.TheVariants.{Verify}
 use Rattle.program_call.specs.Answer.{is_finished}
 use Rattle.scald_tool.specs.Answer.{Verified}
@@ -9,7 +9,7 @@ use Rattle.scald_tool.proofs.verified.verify_text.Goals as goal
 
 pub returns-in-Ok-extend-clause-whole : goal.returns-in-Ok-extend-clause-whole
 returns-in-Ok-extend-clause-whole g c =
-    inr (put_behind c.args.mode c.args.rounds c.args.text.now _ _ _ _ _ c.in-Ok.ensures.is c.as_slice.ensures c.in-Ok-extend.ensures.ok)
+    inr (put_behind c.args.mode c.args.rounds c.args.text.now _ _ _ _ _ c.in-Ok.ensures.is (c.as_slice.ensures ∙ c.in-Ok-joined.ensures) c.in-Ok-extend.ensures.ok)
 
 pub returns-in-Ok-extend-clause-no_memory : goal.returns-in-Ok-extend-clause-no_memory
 returns-in-Ok-extend-clause-no_memory g c none =

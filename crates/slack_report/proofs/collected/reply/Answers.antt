@@ -22,5 +22,6 @@ returns c = λ cases are.
       limits = c.row_count.result;
       have_rows = c.row_count.ensures circuit cases are;
       lines = c.args.lines.now;
-      text = c.in_ok-bytes.ensures ∙ ap lines (c.free_count.ensures circuit cases are.known);
+      text = c.whole.ensures ∙ c.in_ok-bytes.ensures
+          ∙ ap lines (c.free_count.ensures circuit cases are.known);
     }

@@ -1,4 +1,4 @@
-use Rattle.std.proofs.Common.{◌≡◌, ◌*◌, length, arith}
+use Rattle.std.proofs.Common.{◌≡◌, ◌*◌, ◌∙◌, length, arith}
 use Rattle.trace_tool.proofs.Replying.{big_reply, done_reply}
 use Rattle.trace_tool.proofs.drawn.run_in.Goals as goal
 
@@ -17,5 +17,5 @@ returns c =
     let first = c.from.ensures in
     let second = c.from-2.ensures in
     let product : c.from.result * c.from-2.result ≡ length c.args.c.now.nets * c.args.asked.ticks = cc in
-    done_reply c.args.asked c.args.name.now c.args.c.now c.args.values.now c.in_ok-trace.trace c.in_ok-bytes.bytes (omega (arith, product))
-    c.in_ok-trace.ensures c.in_ok-bytes.ensures
+    done_reply c.args.asked c.args.name.now c.args.c.now c.args.values.now c.in_ok-trace.trace c.whole.result (omega (arith, product))
+    c.in_ok-trace.ensures (c.whole.ensures ∙ c.in_ok-bytes.ensures)

@@ -21,10 +21,10 @@ returns-in-Some c =
     let trace = c.args.trace in
     let choices = choices_of (record { delays = trace.delays; wires = trace.wires; inputs = c.new.result; free = c.new-2.result }) in
     let run = run_of trace.ticks choices c.as_slice-bits.result.now in
-    no_run_reply circuit (run_in trace) c.args.from c.in-Some.tick c.in-Some.net c.add_no_run.new.out
+    no_run_reply circuit (run_in trace) c.args.from c.in-Some.tick c.in-Some.net c.whole.result
     (subst (λ (bits : Bits). FailsFirst circuit (run_of trace.ticks choices bits) c.in-Some.tick c.in-Some.net) c.as_slice-bits.ensures
     (subst (λ o. MatchOption o (EachObeys circuit run) (λ f. FailsFirst circuit run f.0 f.1)) c.in-Some.is c.in_ok-tick.ensures))
-    (c.in_ok-add_no_run-in-Some.ensures
+    (c.whole.ensures ∙ c.in_ok-add_no_run-in-Some.ensures
     ∙ ap (λ (l : List ℕ). l ++ not_a_run_line circuit c.in-Some.tick c.in-Some.net) c.new-bytes.ensures)
 
 pub judge_run-requires-clause-is_run : goal.judge_run-requires-clause-is_run

@@ -20,17 +20,17 @@ decreases-whole l = 4 * (64 - l.depth) + 3
 abbrev pub invariant-product-factors : goal.invariant-product-factors
 invariant-product-factors l = record {
   reads : (rest : List Need) → Moves (ahead l.fn.self (group Product l.depth ∷ rest)) (ahead l.self (part Factors l.depth ∷ rest)) (λ v. (v.0 (expression_of l.left), v.1));
-  no_longer : length l.self.rest.now ≤ length l.fn.self.rest.now;
+  no_longer : length l.self.rest ≤ length l.fn.self.rest;
 }
 
 abbrev pub decreases-product-factors : goal.decreases-product-factors
-decreases-product-factors l = length l.self.rest.now
+decreases-product-factors l = length l.self.rest
 
 abbrev pub invariant-sum-terms : goal.invariant-sum-terms
 invariant-sum-terms l = record {
   reads : (rest : List Need) → Moves (ahead l.fn.self (group Sum l.depth ∷ rest)) (ahead l.self (part Terms l.depth ∷ rest)) (λ v. (v.0 (expression_of l.left), v.1));
-  no_longer : length l.self.rest.now ≤ length l.fn.self.rest.now;
+  no_longer : length l.self.rest ≤ length l.fn.self.rest;
 }
 
 abbrev pub decreases-sum-terms : goal.decreases-sum-terms
-decreases-sum-terms l = length l.self.rest.now
+decreases-sum-terms l = length l.self.rest

@@ -25,8 +25,8 @@ abbrev pub invariant-statements-each : goal.invariant-statements-each
 invariant-statements-each l = record {
   reads : (rest : List Need) → Moves (ahead l.fn.self (group (Statements l.edition) l.depth ∷ rest)) (ahead l.self (group (Statements l.edition) l.depth ∷ rest))
       (λ v. (followed (map statement_of l.all.items) v.0, v.1));
-  no_longer : length l.self.rest.now ≤ length l.fn.self.rest.now;
+  no_longer : length l.self.rest ≤ length l.fn.self.rest;
 }
 
 abbrev pub decreases-statements-each : goal.decreases-statements-each
-decreases-statements-each l = length l.self.rest.now
+decreases-statements-each l = length l.self.rest

@@ -8,8 +8,8 @@ use Rattle.drawing_reader.proofs.cursor.Cursor.cases.Given as goal
 abbrev pub invariant-each : goal.invariant-each
 invariant-each l = record {
   reads : (rest : List Need) → Moves (ahead l.fn.self (group g.Cases 0 ∷ rest)) (ahead l.self (group g.Cases 0 ∷ rest)) (λ v. (l.all ++ v.0, v.1));
-  no_longer : length l.self.rest.now ≤ length l.fn.self.rest.now;
+  no_longer : length l.self.rest ≤ length l.fn.self.rest;
 }
 
 abbrev pub decreases-each : goal.decreases-each
-decreases-each l = length l.self.rest.now
+decreases-each l = length l.self.rest

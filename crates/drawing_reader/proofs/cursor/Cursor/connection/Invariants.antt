@@ -10,8 +10,8 @@ abbrev pub invariant-terms : goal.invariant-terms
 invariant-terms l = record {
   reads : (rest : List Need) → Moves (ahead l.fn.self (group g.Conn 0 ∷ rest)) (ahead l.self (part g.MoreTerms 0 ∷ part g.Hold 0 ∷ rest))
       (λ v. (record { terms = map term_of l.terms ++ v.0; hold = v.1.0; place = l.place }, v.1.1));
-  no_longer : length l.self.rest.now ≤ length l.fn.self.rest.now;
+  no_longer : length l.self.rest ≤ length l.fn.self.rest;
 }
 
 abbrev pub decreases-terms : goal.decreases-terms
-decreases-terms l = length l.self.rest.now
+decreases-terms l = length l.self.rest

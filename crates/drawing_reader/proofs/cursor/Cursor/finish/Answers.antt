@@ -18,16 +18,16 @@ returns-then-not-starts c =
     }
 
 pub returns-then-not-done : goal.returns-then-not-done
-returns-then-not-done c = let x = ap (λ (y : List ℕ). lexemes y c.advance.new.self.rest.now) c.advance.ensures.text in
+returns-then-not-done c = let x = ap (λ (y : List ℕ). lexemes y c.advance.new.self.rest) c.advance.ensures.text in
     record {
       reads = rw (c.refused-then-not-done.ensures, x)
-          (refuses (more_there c.args.self.now.text.now c.args.self.now.rest.now c.advance.new.self.rest.now c.args.self.now.operators
+          (refuses (more_there c.args.self.now.text.now c.args.self.now.rest c.advance.new.self.rest c.args.self.now.operators
           c.advance.ensures.rest (c.is_done.ensures.no (cc)) (c.starts.ensures.yes (cc)) (λ z. c.is_done-done.ensures.no (cc) (x ∙ z))));
     }
 
 pub returns : goal.returns
-returns c = let x = ap (λ (y : List ℕ). lexemes y c.advance.new.self.rest.now) c.advance.ensures.text in
+returns c = let x = ap (λ (y : List ℕ). lexemes y c.advance.new.self.rest) c.advance.ensures.text in
     record {
-      reads = end_there c.args.self.now.text.now c.args.self.now.rest.now c.advance.new.self.rest.now c.args.self.now.operators
+      reads = end_there c.args.self.now.text.now c.args.self.now.rest c.advance.new.self.rest c.args.self.now.operators
           c.advance.ensures.rest (c.is_done.ensures.no (cc)) (c.starts.ensures.yes (cc)) (sym x ∙ c.is_done-done.ensures.yes (cc));
     }

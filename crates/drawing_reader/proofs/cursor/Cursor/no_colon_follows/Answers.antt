@@ -1,19 +1,19 @@
-use Rattle.std.proofs.Common.{◌≡◌, sym, ap, ◌∙◌}
-use Rattle.drawing_grammar.specs.Front.{behind_first}
+use Rattle.std.proofs.Common.{◌∷◌, sym, ap, ◌∙◌}
+use Rattle.drawing_grammar.specs.Lexeme.{lexeme_of}
 use Rattle.drawing_grammar.specs.Machine.{no_colon}
-use Rattle.drawing_reader.specs.Reader.{tokens_at}
-use Rattle.drawing_reader.proofs.Behind.{behind_lexemes, none_behind, colon_behind}
+use Rattle.drawing_reader.proofs.Behind.{none_second, second_there, colon_behind}
 use Rattle.drawing_reader.proofs.cursor.Cursor.no_colon_follows.Goals as goal
 
-pub returns-then-is_done : goal.returns-then-is_done
-returns-then-is_done c =
-    let k : tokens_at c.advance.new.self ≡ behind_first (tokens_at c.args.self.now) =
-    rw (c.advance.ensures.text, c.advance.ensures.rest) (behind_lexemes c.args.self.now.text.now c.args.self.now.rest.now) in
-    none_behind (behind_first (tokens_at c.args.self.now)) (sym k ∙ c.is_done.ensures.yes (cc))
+pub returns-in-None : goal.returns-in-None
+returns-in-None c =
+    none_second c.args.self.now.text.now c.args.self.now.rest (sym c.in-None.is ∙ c.second.ensures)
 
-pub returns : goal.returns
-returns c =
-    let k : tokens_at c.advance.new.self ≡ behind_first (tokens_at c.args.self.now) =
-    rw (c.advance.ensures.text, c.advance.ensures.rest) (behind_lexemes c.args.self.now.text.now c.args.self.now.rest.now) in
-    colon_behind (tokens_at c.advance.new.self) c.starts.result (c.is_done.ensures.no (cc)) c.starts.ensures.yes c.starts.ensures.no
-    ∙ ap no_colon k
+pub returns-in-Some : goal.returns-in-Some
+returns-in-Some c =
+    let text = c.args.self.now.text.now in
+    let there = second_there text c.args.self.now.rest c.in-Some.token
+    (sym c.in-Some.is ∙ c.second.ensures) in
+    colon_behind (lexeme_of text c.in-Some.token ∷ there.0) c.is_colon.result (λ e. cc)
+    (λ t. sym c.terminal_of.ensures ∙ c.is_colon.ensures.yes t)
+    (λ f e. c.is_colon.ensures.no f (c.terminal_of.ensures ∙ e))
+    ∙ ap no_colon (sym there.1)

@@ -9,8 +9,8 @@ use Rattle.drawing_reader.proofs.cursor.Cursor.some_connections.Given as goal
 abbrev pub invariant-more : goal.invariant-more
 invariant-more l = record {
   reads : (rest : List Need) → Moves (ahead l.fn.self (group g.SomeConns 0 ∷ rest)) (ahead l.self (part g.MoreConns 0 ∷ rest)) (λ v. (map tree.connection_of l.all ++ v.0, v.1));
-  no_longer : length l.self.rest.now ≤ length l.fn.self.rest.now;
+  no_longer : length l.self.rest ≤ length l.fn.self.rest;
 }
 
 abbrev pub decreases-more : goal.decreases-more
-decreases-more l = length l.self.rest.now
+decreases-more l = length l.self.rest

@@ -17,8 +17,8 @@ invariant-each l = record {
         },
         v.1,
       ));
-  no_longer : length l.self.rest.now ≤ length l.fn.self.rest.now;
+  no_longer : length l.self.rest ≤ length l.fn.self.rest;
 }
 
 abbrev pub decreases-each : goal.decreases-each
-decreases-each l = length l.self.rest.now
+decreases-each l = length l.self.rest

@@ -10,8 +10,8 @@ abbrev pub invariant-more : goal.invariant-more
 invariant-more l = record {
   reads : (rest : List Need) → Moves (ahead l.fn.self (group g.SomeFormals 0 ∷ rest)) (ahead l.self (part g.MoreFormals 0 ∷ rest))
       (λ v. (record { items = map tree.formal_of l.all ++ v.0.items; places = l.places ++ v.0.places }, v.1));
-  no_longer : length l.self.rest.now ≤ length l.fn.self.rest.now;
+  no_longer : length l.self.rest ≤ length l.fn.self.rest;
 }
 
 abbrev pub decreases-more : goal.decreases-more
-decreases-more l = length l.self.rest.now
+decreases-more l = length l.self.rest

@@ -10,7 +10,8 @@ returns c = λ asked version base cases holds.
     record {
       outcome = refl;
       text =
-          c.in_ok-add_count.ensures
+          c.whole.ensures
+          ∙ c.in_ok-add_count.ensures
           ∙ (λ j. c.in_ok-add_rows.ensures j ++ count_line (c.len.ensures j))
           ∙ (λ j. (c.in_ok-write_period.ensures.ok j ++ flat_map (margin_line d)
           (c.as_slice.ensures j)) ++ count_line (length c.args.self.rows))

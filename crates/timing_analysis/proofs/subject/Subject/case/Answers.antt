@@ -1,9 +1,6 @@
-use Rattle.std.proofs.Common.{◌+◌, Option, [], refl, subst, sym}
-use Rattle.std.specs.Prelude.{IfSome}
+use Rattle.std.proofs.Common.{◌+◌, [], refl, subst}
 use Rattle.std.proofs.lemmas.Result.{err_from_is_err_and}
 use Rattle.case_analysis.specs.Case.{case_at}
-use Rattle.case_analysis.specs.Reached.{AreReached}
-use Rattle.case_analysis.specs.declared.reached.Reached.{Reached}
 use Rattle.timing_analysis.specs.Ended.{EndsCase}
 use Rattle.timing_analysis.specs.Settled.{IsCaseIn}
 use Rattle.timing_analysis.proofs.Settling.{case_settled, case_ends, case_settles}
@@ -15,10 +12,7 @@ case_waves-requires-clause-known g c =
     (c.in_ok-shorten.ensures.kept c.args.self.now.circuit c.args.limit c.requires.settled).are
 
 pub case_waves-requires-clause-shared : goal.case_waves-requires-clause-shared
-case_waves-requires-clause-shared g c =
-    subst (λ (shared : Option Reached). IfSome shared (AreReached c.args.self.now.circuit (case_at c.args.self.now.cases c.args.place)))
-    (sym c.as_ref.ensures.value)
-    (c.requires.is.reached c.args.place [] c.requires.inside)
+case_waves-requires-clause-shared g c = c.requires.is.reached c.args.place [] c.requires.inside
 
 pub case_waves-requires-clause-base : goal.case_waves-requires-clause-base
 case_waves-requires-clause-base g c =
