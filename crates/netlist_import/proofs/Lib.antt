@@ -27,4 +27,5 @@ pub mod NamedBits
 pub mod Lawful
 mod ReaderExamples
 mod MacroExamples
+mod TextExamples
 mod CallExamples

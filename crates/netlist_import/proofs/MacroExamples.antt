@@ -124,6 +124,21 @@ left_empty : fits (cell []) (kind_of (cell (bit.Number 2 ∷ []))) ≡ true
 unfolding with_ports
 left_empty = refl
 
+-- one that leads the other way is of another kind, and so are other parameters
+abbrev out_cell : Cell
+out_cell = record (cell []) {
+  connections = record { name = codes "A"; direction = Output; bits = bit.Number 2 ∷ [] } ∷ [];
+}
+
+other_way : fits out_cell (kind_of (cell (bit.Number 2 ∷ []))) ≡ false
+unfolding with_ports
+other_way = refl
+
+other_parameters : fits (record (cell (bit.Number 2 ∷ [])) { parameters = codes "{}" })
+    (kind_of (cell (bit.Number 2 ∷ []))) ≡ false
+unfolding with_ports
+other_parameters = refl
+
 second : joins (kind_of (cell (bit.Zero ∷ [])) ∷ []) (cell (bit.Zero ∷ bit.One ∷ [])) ≡ 1
 unfolding joins with_ports
 second = refl

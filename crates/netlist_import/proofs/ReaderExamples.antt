@@ -1,17 +1,19 @@
 -- Small texts and values: where tokens begin, which value tokens are, and what is wrong in it, both ways.
-use Rattle.std.proofs.Common.{◌≡◌, true, false, [], ◌∷◌, Some, None, Ok, Err, refl}
+use Rattle.std.proofs.Common.{◌≡◌, ℕ, true, false, List, [], ◌∷◌, Some, None, Ok, Err, refl}
 use Rattle.std.specs.Prelude.{codes, replicate}
 use Rattle.json.specs.Token as token
-use Rattle.netlist_import.specs.declared.fault.FaultKind.TheVariants.{NoNetlist, BadDirection}
+use Rattle.netlist_import.specs.declared.fault.FaultKind.TheVariants.{NoNetlist, BadDirection, TooWide, UnlikeCells}
 use Rattle.netlist_import.specs.declared.netlist.Bit.TheVariants.{Number, Undriven}
+use Rattle.netlist_import.specs.declared.netlist.Direction.TheVariants.{Input}
+use Rattle.netlist_import.specs.declared.netlist.Port.{Port}
 use Rattle.netlist_import.specs.declared.offset.Within.TheVariants.{Between}
 use Rattle.netlist_import.specs.declared.offset.Parting.TheVariants.{Never}
-use Rattle.netlist_import.specs.Placed.{null, number, text, array, object, no_items, item, no_members, member, field, spelled}
+use Rattle.netlist_import.specs.Placed.{Placed, null, number, text, array, object, no_items, item, items_of, no_members, member, field, spelled}
 use Rattle.netlist_import.specs.Offset.{offset}
 use Rattle.netlist_import.specs.Parsed.{beginning, run}
 use Rattle.netlist_import.specs.Bits.{bit_of, whole}
-use Rattle.netlist_import.specs.Netlist.{is_binary_one}
-use Rattle.netlist_import.specs.Fault.{netlist_fault, direction_fault, each}
+use Rattle.netlist_import.specs.Netlist.{is_binary_one, is_set}
+use Rattle.netlist_import.specs.Fault.{netlist_fault, connection_fault, direction_fault, each, port_bits_fault}
 
 -- ---- where tokens begin
 
@@ -116,6 +118,17 @@ unset = refl
 no_digits : is_binary_one [] ≡ false
 no_digits = refl
 
+-- the number 1, or binary digits of value 1
+by_number : is_set (Some (number 0 (codes "1"))) ≡ true
+unfolding whole
+by_number = refl
+
+by_digits : is_set (Some (text 0 (codes "0001"))) ≡ true
+by_digits = refl
+
+by_none : is_set None ≡ false
+by_none = refl
+
 -- ---- what is wrong
 
 leads_in : direction_fault (text 3 (codes "input")) ≡ None
@@ -136,6 +149,48 @@ empty : netlist_fault [] (object 0 (member (codes "modules") (object 2 no_member
     ≡ None
 unfolding field each
 empty = refl
+
+-- ---- connections
+
+-- as many bits
+abbrev wide : ℕ → Placed
+wide n = array 9 (items_of (replicate n (text 10 (codes "x"))))
+
+widest_port : port_bits_fault (wide 256) ≡ None
+unfolding each
+widest_port = refl
+
+wider_port : port_bits_fault (wide 257) ≡ Some (record { kind = TooWide; token = 9 })
+unfolding each
+wider_port = refl
+
+-- of two at one place that of the least number
+no_way : connection_fault None [] (codes "A", wide 257)
+    ≡ Some (record { kind = BadDirection; token = 9 })
+unfolding each field
+no_way = refl
+
+-- of a module's port of two bits: two, none, and one
+abbrev two_bits : List Port
+two_bits = record { name = codes "d"; direction = Input; bits = Undriven ∷ Undriven ∷ [] } ∷ []
+
+as_wide : connection_fault (Some two_bits) [] (codes "d", wide 2) ≡ None
+unfolding each field
+as_wide = refl
+
+without_bits : connection_fault (Some two_bits) [] (codes "d", wide 0) ≡ None
+unfolding each field
+without_bits = refl
+
+narrower : connection_fault (Some two_bits) [] (codes "d", wide 1)
+    ≡ Some (record { kind = UnlikeCells; token = 9 })
+unfolding each field
+narrower = refl
+
+other_port : connection_fault (Some two_bits) [] (codes "e", wide 2)
+    ≡ Some (record { kind = UnlikeCells; token = 9 })
+unfolding each field
+other_port = refl
 
 -- ---- texts of values
 

@@ -1,7 +1,7 @@
 -- Spans of a clock, checkers without a window, ways to several edges and pulses that may come again,
 -- worked out on paper.
 use Rattle.std.specs.Prelude.{◌≡◌, ℕ, ◌+◌, ◌-◌, true, false, [], ◌∷◌, pos, negsuc, Some, None}
-use Rattle.std.proofs.Common.{refl}
+use Rattle.std.proofs.Common.{arith, refl}
 use Rattle.scald_base.specs.Clock.{back}
 use Rattle.scald_base.specs.declared.assertion.AssertSpec.TheVariants.{Stable}
 use Rattle.step_values.specs.Cell.{values}
@@ -24,7 +24,10 @@ use Rattle.slack_rows.specs.Pulse.{may_change_again}
 use Rattle.slack_rows.specs.Watch.{span_watch, spans}
 use Rattle.slack_rows.specs.Window.{extent_of}
 use Rattle.slack_rows.specs.Way.{Guard, least_after, least_before}
-use Rattle.slack_rows.specs.Arrived.{edge_for, moved as moved_to, moved_by, moved_into}
+use Rattle.slack_rows.specs.declared.guard.Guard as guarding
+use Rattle.slack_rows.specs.declared.window.Window.{Window as Opened}
+use Rattle.slack_rows.specs.Views.{window_about}
+use Rattle.slack_rows.specs.Arrived.{edge_for, is_nearer, moved as moved_to, moved_by, moved_into}
 use Rattle.critical_paths.specs.declared.arrival.Arrival.{Arrival as Arrived}
 use Rattle.critical_paths.specs.declared.direction.Corner.TheVariants.{Late as LateCorner, Early as EarlyCorner}
 use Rattle.critical_paths.specs.declared.region.Region.{Region as Ticked}
@@ -99,6 +102,42 @@ before_first = refl
 moved_back : moved_by EarlyCorner 16 (pos 0) (pos 1) ≡ negsuc 15
 moved_back = refl
 
+-- ---- which of two edges at 9 and at 1 is nearer, and of one clock
+
+abbrev near_rise : ℕ → Opened
+near_rise tick = window_about (record { first = pos tick; last = pos tick }) (extent_of 1 1)
+
+abbrev at_1 : ℕ → guarding.Guard
+at_1 net = record {
+  window = near_rise 1;
+  net = net;
+  ideal = pos 1;
+  near = (omega arith, omega arith, omega arith);
+}
+
+abbrev at_9 : ℕ → guarding.Guard
+at_9 net = record {
+  window = near_rise 9;
+  net = net;
+  ideal = pos 9;
+  near = (omega arith, omega arith, omega arith);
+}
+
+nearer : is_nearer EarlyCorner 16 (pos 12) (at_1 3) (at_9 3) ≡ true
+nearer = refl
+
+farther : is_nearer EarlyCorner 16 (pos 12) (at_9 3) (at_1 3) ≡ false
+farther = refl
+
+of_another_clock : is_nearer EarlyCorner 16 (pos 12) (at_1 3) (at_9 4) ≡ false
+of_another_clock = refl
+
+as_near : is_nearer EarlyCorner 16 (pos 12) (at_9 3) (at_9 3) ≡ false
+as_near = refl
+
+next_is_nearer : is_nearer LateCorner 16 (pos 12) (at_9 3) (at_1 3) ≡ true
+next_is_nearer = refl
+
 -- ---- an arrival at 3 of an edge at 1, in a region three periods later
 
 abbrev known : Arrived
@@ -128,6 +167,11 @@ at_its_end = refl
 comes_again : may_change_again (read (wave "00CC000000000000").cells) (2, 1) ≡ true
 unfolding earlier back
 comes_again = refl
+
+-- it ends by what comes again
+ends_there : may_change_again (read (wave "0R1CC00000000000").cells) (1, 2) ≡ false
+unfolding earlier back
+ends_there = refl
 
 comes_once : may_change_again (read (wave "00C0000000000000").cells) (2, 1) ≡ false
 unfolding earlier back

@@ -1,12 +1,13 @@
 -- The order of the table, what is left of pulses, spans whose input may change in every slot,
 -- clocks that assert, and several cases, worked out on paper.
-use Rattle.std.specs.Prelude.{◌≡◌, ℕ, true, false, [], ◌∷◌, pos, negsuc, Some}
+use Rattle.std.specs.Prelude.{◌≡◌, ℕ, true, false, [], ◌∷◌, pos, negsuc, Some, None}
 use Rattle.std.proofs.Common.{refl}
 use Rattle.scald_base.specs.Clock.{back}
 use Rattle.scald_base.specs.declared.assertion.AssertSpec.TheVariants.{Stable}
 use Rattle.wave_core.specs.Slots.{earlier}
 use Rattle.skew_algebra.specs.Wave.{normal, moved}
 use Rattle.gate_eval.specs.Hold.{hazard}
+use Rattle.gate_eval.specs.Meeting.{meeting}
 use Rattle.element_kinds.specs.declared.kind.Kind.TheVariants.{And, Buf, Chg, Reg, RiseFall, SetupHold}
 use Rattle.flat_circuit.specs.declared.net.Net.{Net}
 use Rattle.flat_circuit.specs.declared.split.Split.{Split}
@@ -16,10 +17,10 @@ use Rattle.critical_paths.specs.declared.direction.Direction.TheVariants.{Rise, 
 use Rattle.critical_paths.specs.Cause.{made1, made2, made3, made4}
 use Rattle.critical_paths.specs.Walk.{path_of_stop}
 use Rattle.critical_paths.specs.Arrival.{arrivals}
-use Rattle.critical_paths.proofs.Circuits.{bounds, checker, circuit, clock, driven, element, input, late_wave, marked_pin, pin, wave}
+use Rattle.critical_paths.proofs.Circuits.{bounds, checker, circuit, clock, driven, element, input, late_wave, marked_pin, of_two_delays, pin, wave}
 use Rattle.slack_rows.specs.Launched.{opening}
 use Rattle.slack_rows.specs.Limit.{Case, least_told, told_in, worst}
-use Rattle.slack_rows.specs.Pulse.{latest_begin, left_of}
+use Rattle.slack_rows.specs.Pulse.{latest_begin, left_at, left_if, left_of, width_of}
 use Rattle.slack_rows.specs.Rows.{first_with, free_count}
 use Rattle.slack_rows.specs.Slack.{Ticks, Way, NoNumber, is_above}
 use Rattle.slack_rows.specs.declared.parameter.Word.TheVariants.{Setup, Hold, From as StableFrom, To as StableTo}
@@ -62,6 +63,34 @@ high_left = refl
 
 low_left : left_of delays false 5 ≡ negsuc 0
 low_left = refl
+
+-- just nothing is left of a pulse of 2, and a tick of one of 3
+just_nothing : left_if delays true (Some (0, 2)) ≡ Some (pos 0)
+just_nothing = refl
+
+a_tick : left_if delays true (Some (0, 3)) ≡ None
+a_tick = refl
+
+-- it may be none where it is to be wider than one slot
+may_be_none : width_of (2, 1) 2 (Some (negsuc 0)) ≡ negsuc 0
+may_be_none = refl
+
+wide_enough : width_of (2, 1) 1 (Some (negsuc 0)) ≡ pos 1
+wide_enough = refl
+
+wider : width_of (2, 2) 3 (Some (negsuc 0)) ≡ pos 2
+wider = refl
+
+-- of a complement its output's low pulse: 2 ticks from a fall that comes 4 late to a rise 1 late
+abbrev inverting : Circuit
+inverting =
+    circuit (input (clock 4 6 (0, 0)) ∷ driven 0 ∷ [])
+    (record (of_two_delays Buf (bounds 1 1) (bounds 1 4) (pin 0 ∷ [])) { out_inverted = true } ∷ [])
+
+of_a_complement : left_at inverting (waves_of (wave "1111F0R111111111" ∷ wave "0000000000000000" ∷ [])) true (pin 1)
+    ≡ Some (negsuc 0)
+unfolding meeting path_of_stop arrivals back earlier moved normal hazard made1 made2 made3 made4
+of_a_complement = refl
 
 -- ---- by which step a mark lets others through, by the level that closes it
 
@@ -151,3 +180,24 @@ quiet_beside = refl
 never_at_rest : free_count gate (record { number = 1; waves = waves_of (wave "CCCCCCCCCCCCCCCC" ∷ wave "CCCSSSSSCCCCCCCC" ∷ wave "CCCCCCCCCCCCCCCC" ∷ []) } ∷ []) ≡ 0
 unfolding told_in path_of_stop arrivals back earlier moved normal hazard made1 made2 made3 made4
 never_at_rest = refl
+
+-- A driven clock that stays at 1: its assertion does not permit the level, and so its sides are no
+-- limits of their own. They are the limits of a net that is to be stable and never changes.
+abbrev of_net : Net → Circuit
+of_net net = record {
+  header = clocked.header;
+  nets = input (Stable []) ∷ net ∷ [];
+  instances = clocked.instances;
+  order = 0 ∷ 1 ∷ [];
+}
+
+stays_high : free_count (of_net asserted) (record { number = 1; waves = waves_of (wave "0000R11F00000000" ∷ wave "1111111111111111" ∷ []) } ∷ []) ≡ 0
+unfolding told_in path_of_stop arrivals back earlier moved normal hazard made1 made2 made3 made4
+stays_high = refl
+
+abbrev settled : Net
+settled = record { name = []; bit = 0; spec = Stable (record { lo = 4; hi = 12 } ∷ []); wire = bounds 0 0; driver = Some 0 }
+
+stays : free_count (of_net settled) (record { number = 1; waves = waves_of (wave "SSSSSSSSSSSSSSSS" ∷ wave "SSSSSSSSSSSSSSSS" ∷ []) } ∷ []) ≡ 2
+unfolding told_in path_of_stop arrivals back earlier moved normal hazard made1 made2 made3 made4
+stays = refl

@@ -138,6 +138,26 @@ before_in = refl
 after_in : (told_after 16 by_itself in_it).slack ≡ Ticks (negsuc 2)
 after_in = refl
 
+-- Data in the last two ticks of the window ends in it, and is of the side of its launch; what begins
+-- right before the window and ends in it is late.
+abbrev to_its_end : Watch
+to_its_end = record { changes = marked "....xx.........."; windows = at_edge 4 ∷ []; never = false }
+
+abbrev from_before : Watch
+from_before = record { changes = marked "..xx............"; windows = at_edge 4 ∷ []; never = false }
+
+abbrev before_it : Launches
+before_it = record { side = λ w r. Late; two = λ w r. None; last_way = None; first_way = None }
+
+late_to_its_end : (told_before 16 before_it to_its_end).slack ≡ Ticks (negsuc 2)
+late_to_its_end = refl
+
+early_to_its_end : (told_before 16 by_itself to_its_end).slack ≡ Ticks (pos 13)
+early_to_its_end = refl
+
+late_from_before : (told_before 16 by_itself from_before).slack ≡ Ticks (negsuc 0)
+late_from_before = refl
+
 -- ---- two launches at one edge
 
 abbrev two_at : ℕ → ℕ → Launches

@@ -9,13 +9,17 @@ use Rattle.fixpoint_engine.specs.Waves.{Waves}
 use Rattle.critical_paths.specs.declared.direction.Corner.{Corner}
 use Rattle.critical_paths.specs.declared.direction.Corner.TheVariants.{Late as LateCorner, Early as EarlyCorner}
 use Rattle.critical_paths.specs.declared.direction.Direction.{Direction}
+use Rattle.critical_paths.specs.declared.event.Event.{Event}
 use Rattle.critical_paths.specs.declared.event.PinEvent.{PinEvent}
+use Rattle.critical_paths.specs.declared.event.Reading.TheVariants.{Folded}
 use Rattle.critical_paths.specs.declared.path.At.{At}
 use Rattle.critical_paths.specs.declared.path.Node.{Node}
-use Rattle.critical_paths.specs.Event.{other_corner}
-use Rattle.critical_paths.specs.Known.{corner_in, path_at}
+use Rattle.flat_circuit.specs.declared.instance.Pin.{Pin}
+use Rattle.critical_paths.specs.Event.{other_corner, turned}
+use Rattle.critical_paths.specs.Known.{corner_in, path_at, path_known}
+use Rattle.critical_paths.specs.Views.{event_of}
 use Rattle.critical_paths.specs.Tick.{slot_of}
-use Rattle.critical_paths.specs.Walk.{pin_path_on}
+use Rattle.critical_paths.specs.Walk.{end_pin_path, path_of_stop, pin_path_on, stop_of}
 use Rattle.slack_rows.specs.declared.held.Held.{Held}
 use Rattle.slack_rows.specs.declared.parameter.Subject.{Subject}
 use Rattle.slack_rows.specs.declared.parameter.Subject.TheVariants.{Instance as OfInstance, Net as OfNet}
@@ -63,6 +67,40 @@ IsPathOf c ws nodes e found =
     ≡ option_map Some (pin_path_on c ws e.corner (slot_of (period c.header) e.tick) e.direction
     e.pin.inverted e.pin.target)
 
+-- the same of the end of a pulse
+abbrev pub IsEndPathOf : Circuit → Waves → List Node → PinEvent → Option At → Type 0
+IsEndPathOf c ws nodes e found =
+    option_map (path_at nodes) found
+    ≡ option_map Some (end_pin_path c ws e.corner e.direction (slot_of (period c.header) e.tick)
+    e.pin)
+
+-- it is the path of an event of a net
+abbrev pub IsPathOfNet : Circuit → Waves → List Node → Event → At → Type 0
+IsPathOfNet c ws nodes e at =
+    path_known nodes at.node
+    ≡ Some (path_of_stop c ws (stop_of c e.corner e.reading (event_of (period c.header) e)))
+
+-- the change of a net
+abbrev pub net_change : ℕ → Corner → Found → Event
+net_change net corner found =
+    record {
+      net = net;
+      direction = found.direction;
+      tick = found.tick;
+      corner = corner;
+      reading = Folded;
+    }
+
+-- the step with which a pulse ends
+abbrev pub pulse_end : Pin → Found → PinEvent
+pulse_end pin found =
+    record {
+      pin = pin;
+      direction = turned true found.direction;
+      tick = found.window.last;
+      corner = EarlyCorner;
+    }
+
 -- the change of the data
 abbrev pub change_told : Held → Corner → Found → PinEvent
 change_told held corner found =
@@ -93,6 +131,16 @@ ExplainAt (OfInstance number) word nodes changes clock =
 ExplainAt (OfNet number) word nodes changes clock = Explains nodes (corner_of word) changes
 
 -- ---- which slacks have paths
+
+-- that of a way is no path of a change
+abbrev pub is_by_way : By → Bool
+is_by_way (ByRegion region) = false
+is_by_way (ByWay node) = true
+is_by_way Pulse = false
+is_by_way Swallowed = false
+is_by_way Quiet = false
+is_by_way Repeated = false
+is_by_way Nothing = false
 
 abbrev pub is_by_paths : By → Bool
 is_by_paths (ByRegion region) = true

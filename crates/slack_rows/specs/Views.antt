@@ -192,6 +192,16 @@ told_by_region pin direction corner w r =
       by = ByRegion r;
     }
 
+-- a pulse that may change more than once
+abbrev pub comes_again : By → Bool
+comes_again (ByRegion region) = false
+comes_again (ByWay node) = false
+comes_again Quiet = false
+comes_again Pulse = false
+comes_again Swallowed = false
+comes_again Repeated = true
+comes_again Nothing = false
+
 -- a number of a way, or none: it is broken whatever it is
 abbrev pub is_starred : Slack → Bool
 is_starred Free = false

@@ -1,6 +1,6 @@
 //! The paths that a slack comes from.
 
-ghost use Rattle.std.specs.Prelude.{◌≡◌, ℕ, ◌^◌, IfOk, IfSome, None, OnOk, false, slice_get};
+ghost use Rattle.std.specs.Prelude.{◌≡◌, ℕ, ◌^◌, IfOk, IfSome, None, OnOk, Some, false, slice_get};
 ghost use Rattle.std.specs.List.{All};
 ghost use Rattle.gate_eval.specs.Hold.{closed_bit};
 ghost use Rattle.fixpoint_engine.specs.Waves.{marked_pin as marked_in, target_wire, waves_of};
@@ -12,7 +12,8 @@ ghost use Rattle.critical_paths.specs.Known.{Knows};
 ghost use Rattle.critical_paths.specs.Views.{IsPin, Sees};
 ghost use Rattle.slack_rows.specs.Held.{GoesOn, IsHeld, step_held};
 ghost use Rattle.slack_rows.specs.Launched.{opening};
-ghost use Rattle.slack_rows.specs.Shown.{ExplainAt, ExplainEnds, Explains, IsHeldAt, IsPathOf, ShowAt, ShowsAt, change_told, clock_tick, data_tick, edge_tick, is_by_paths};
+ghost use Rattle.flat_circuit.specs.declared.instance.Pin.{Pin};
+ghost use Rattle.slack_rows.specs.Shown.{ExplainAt, ExplainEnds, Explains, IsEndPathOf, IsHeldAt, IsPathOf, IsPathOfNet, ShowAt, ShowsAt, change_told, clock_tick, data_tick, edge_tick, is_by_paths, is_by_way, net_change, pulse_end};
 ghost use Rattle.slack_rows.specs.Views.{corner_of, is_of_width};
 
 use crate::checker::held_by;
@@ -75,6 +76,9 @@ fn pulse_paths<W: CyclicWave<Item = Value>>(
     ensures corners { IfOk result (λ found.
         Explains paths.new.nodes Corner.Late found.«data»
         × Explains paths.new.nodes Corner.Early found.clock) }
+    ensures step { (pin : Pin) → slice_get checker.now.pins 0 ≡ Some pin → IfOk result (λ found.
+        IsEndPathOf view.now.circuit.now (waves_of view.now.waves.now) paths.new.nodes
+        (pulse_end pin told) found.clock) }
 {
     let Some(pin) = checker.pins.as_slice().get(0) else {
         return Ok(Causes::NONE);
@@ -187,6 +191,8 @@ fn data_path<W: CyclicWave<Item = Value>>(
     ensures paths { OnOk result (GoesOn view.now.circuit.now (waves_of view.now.waves.now)
         paths.old.nodes paths.new.nodes paths.new.met.entries) }
     ensures tick { IfOk result (ShowsAt told.tick) }
+    ensures is { is_by_way told.by ≡ false → IfOk result (IsPathOf view.now.circuit.now
+        (waves_of view.now.waves.now) paths.new.nodes (change_told held corner told)) }
 {
     if let By::Way(node) = told.by {
         return Ok(Some(way_path(view, held, corner, node, told.tick)));
@@ -266,6 +272,8 @@ fn net_paths<W: CyclicWave<Item = Value>>(
     ensures change { IfOk result (λ found. IfSome found.«data» (λ at. at.tick ≡ told.tick)) }
     ensures none { IfOk result (λ found. found.clock ≡ None) }
     ensures corner { IfOk result (λ found. Explains paths.new.nodes corner found.«data») }
+    ensures is { IfOk result (λ found. IfSome found.«data» (IsPathOfNet view.now.circuit.now
+        (waves_of view.now.waves.now) paths.new.nodes (net_change net corner told))) }
 {
     let Some(_) = view.circuit.net(net) else {
         return Ok(Causes::NONE);

@@ -17,7 +17,7 @@ ghost use Rattle.critical_paths.specs.Views.{Sees};
 ghost use Rattle.slack_rows.specs.Held.{AreChanges, AreOfWays, AreSlots, GoesOn, IsHeld, IsInPeriod, IsSlots, TellSides, TellWatch, TellWindows, launches_of, two_of, windows_about};
 ghost use Rattle.slack_rows.specs.Laws.{IsPlaced};
 ghost use Rattle.slack_rows.specs.Limit.{check_by_arrivals, edge_limits as limits_at_edges, has_no_window, is_by_arrivals, told_check};
-ghost use Rattle.slack_rows.specs.Views.{checks_edges, closing};
+ghost use Rattle.slack_rows.specs.Views.{checks_edges, closing, told_none};
 ghost use Rattle.slack_rows.specs.Watch.{rise_watch, span_watch};
 ghost use Rattle.slack_rows.specs.declared.parameter.Word.TheVariants.{Setup, Hold};
 
@@ -136,6 +136,9 @@ fn span_slacks<W: CyclicWave<Item = Value>>(
         let watch = span_watch p (limits_at_edges limits) (read (W.cells clock.now)) input in
         IfOk result (TellWatch p (launches_of c ws (Some held))
         (is_by_arrivals p (two_of c ws (Some held)) watch) held.place Change watch) }
+    ensures never { (input : Folds) → (span_watch (length (W.cells clock.now))
+        (limits_at_edges limits) (read (W.cells clock.now)) input).never ≡ true →
+        IfOk result (λ found. found.before ≡ Some (told_none Reason.High held.place Change)) }
 {
     if stays_high(clock) {
         return Ok(Slacks::none(Reason::High, held.place, Direction::Change));
@@ -174,6 +177,9 @@ fn rise_slacks<W: CyclicWave<Item = Value>>(
         let watch = rise_watch p (limits_at_edges limits) (read (W.cells clock.now)) input in
         IfOk result (TellWatch p (launches_of c ws (Some held))
         (is_by_arrivals p (two_of c ws (Some held)) watch) held.place Change watch) }
+    ensures never { let p = period view.now.circuit.now.header in (input : Folds) →
+        (rise_watch p (limits_at_edges limits) (read (W.cells clock.now)) input).never ≡ true →
+        IfOk result (λ found. found.before ≡ Some (told_none Reason.Clock held.place Change)) }
 {
     let edges = slots(view, clock, Test::May(Direction::Rise))?;
     if edges.are_all {

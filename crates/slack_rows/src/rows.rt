@@ -9,6 +9,7 @@ ghost use Rattle.slack_rows.specs.Held.{GoesOn};
 ghost use Rattle.slack_rows.specs.Known.{AreKnown, IsFirst, IsLowered, IsSetWith, numbers_of, places_of};
 ghost use Rattle.slack_rows.specs.Limit.{Case};
 ghost use Rattle.slack_rows.specs.Rows.{all_limits};
+ghost use Rattle.slack_rows.specs.Shown.{ExplainAt, ShowAt};
 
 use crate::causes::{Causes, causes_of};
 use crate::limits::{Parameters, parameters_of};
@@ -79,6 +80,10 @@ fn first<W: CyclicWave<Item = Value>>(
     ensures paths { OnOk result (GoesOn view.now.circuit.now (waves_of view.now.waves.now)
         paths.old.nodes paths.new.nodes paths.new.met.entries) }
     ensures least { IfOk result (λ found. IsFirst sets.old.keys told case sets.new.keys found) }
+    ensures shown { IfOk result (λ found.
+        ShowAt parameter.subject parameter.word told found.«data» found.clock) }
+    ensures explained { IfOk result (λ found. ExplainAt parameter.subject parameter.word
+        paths.new.nodes found.«data» found.clock) }
 {
     let Causes { data, clock } = causes_of(view, paths, parameter, told)?;
     let cases = set_with(sets, 0, case)?;

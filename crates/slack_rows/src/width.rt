@@ -15,9 +15,9 @@ ghost use Rattle.flat_circuit.specs.Limits.{high_of, low_of};
 ghost use Rattle.critical_paths.specs.Tick.{IsWithin, most_tick};
 ghost use Rattle.critical_paths.specs.Views.{Sees};
 ghost use Rattle.slack_rows.specs.Limit.{begin_of, told_level};
-ghost use Rattle.slack_rows.specs.Pulse.{latest_begin, left_at, left_by, left_if, left_in, left_of as left_after, may_change_again, narrowest as narrowest_of, told_wave};
+ghost use Rattle.slack_rows.specs.Pulse.{changes_again, latest_begin, left_at, left_by, left_if, left_in, left_of as left_after, may_change_again, narrowest as narrowest_of, told_wave};
 ghost use Rattle.slack_rows.specs.Slack.{told_of};
-ghost use Rattle.slack_rows.specs.Views.{Tells};
+ghost use Rattle.slack_rows.specs.Views.{Tells, comes_again};
 
 use crate::slack::{By, Slack, Slacks, Told};
 use crate::window::Window;
@@ -289,11 +289,15 @@ fn width<W: CyclicWave<Item = Value>>(
 ) -> Result<Option<Told>, NoMemory>
     requires sees { Sees view.now.circuit.now view.now.waves.now view.now.hazards.now }
     requires pin { PinExists (length view.now.circuit.now.nets) pin }
-    ensures { let c = view.now.circuit.now in let ws = waves_of view.now.waves.now in
+    ensures told { let c = view.now.circuit.now in let ws = waves_of view.now.waves.now in
         let wave = read (wave_shown c ws pin).cells in
         IfOk result (λ found. Tells (period c.header) found (told_of 0 (begin_of level)
         (told_wave limit (left_at c ws level pin) wave
         (narrowest_of (period c.header) level wave)))) }
+    ensures again { let c = view.now.circuit.now in let ws = waves_of view.now.waves.now in
+        let wave = read (wave_shown c ws pin).cells in
+        IfOk result (λ found. IfSome found (λ told. comes_again told.by
+        ≡ changes_again wave (narrowest_of (period c.header) level wave))) }
 {
     let wave = pin_wave(view.alloc, view.circuit, view.waves, pin)?;
     let shown = wave.wave();

@@ -83,3 +83,16 @@ of_scopes : declarations (of One Nanoseconds) (codes "N") scopes
     ≡ codes "$timescale 1 ns $end\n$scope module N $end\n$var wire 1 ! \\/CK~A $end\n$scope module \\u#1 $end\n$var wire 1 \" \\A~B $end\n$scope module v $end\n$var wire 1 # W $end\n$upscope $end\n$upscope $end\n$scope module u2 $end\n$scope module v $end\n$var wire 1 $ W $end\n$upscope $end\n$upscope $end\n$upscope $end\n$enddefinitions $end\n"
 unfolding digits declarations head_text tail_text variable_line code_of
 of_scopes = refl
+
+-- ---- a use with D 0 and 2, where a net is called D_2, and names that begin with a digit and with `$`
+
+abbrev in_use : Circuit
+in_use =
+    circuit
+    (net (codes "$A") 0 ∷ net (codes "2A") 0 ∷ net (codes "u/D") 0 ∷ net (codes "u/D") 2 ∷ net (codes "u/D_2") 0 ∷ [])
+    (0 ∷ 1 ∷ 2 ∷ 3 ∷ 4 ∷ [])
+
+of_a_use : declarations (of One Nanoseconds) (codes "S") in_use
+    ≡ codes "$timescale 1 ns $end\n$scope module S $end\n$var wire 1 ! \\$A $end\n$var wire 1 \" \\2A $end\n$scope module u $end\n$var wire 1 # D [0] $end\n$var wire 1 $ \\D<2> $end\n$var wire 1 % D_2 $end\n$upscope $end\n$upscope $end\n$enddefinitions $end\n"
+unfolding digits declarations head_text tail_text variable_line code_of
+of_a_use = refl

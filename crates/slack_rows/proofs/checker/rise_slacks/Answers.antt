@@ -1,4 +1,4 @@
-use Rattle.std.proofs.Common.{◌≡◌, ◌≤◌, Bool, false, List, Some, map, refl, sym, ap, subst, ◌∙◌, arith}
+use Rattle.std.proofs.Common.{◌≡◌, ◌≤◌, Bool, true, false, List, Some, map, refl, sym, ap, subst, ◌∙◌, arith}
 use Rattle.std.specs.List.{AllByRecursion}
 use Rattle.scald_base.specs.Time.{period}
 use Rattle.fixpoint_engine.specs.Pins.{read}
@@ -9,6 +9,7 @@ use Rattle.critical_paths.specs.Region.{all_events, regions}
 use Rattle.critical_paths.specs.Views.{ticks_of_region}
 use Rattle.critical_paths.specs.declared.region.Region.{Region as Ticked}
 use Rattle.slack_rows.specs.declared.slack.Reason.TheVariants.{Clock}
+use Rattle.slack_rows.specs.declared.slack.Slacks.{Slacks}
 use Rattle.slack_rows.specs.Held.{AreOfWays, launches_of, two_of, windows_about}
 use Rattle.slack_rows.specs.Slack.{is_met}
 use Rattle.slack_rows.specs.Laws.{IsPlaced}
@@ -61,3 +62,14 @@ returns-clause-told g c =
     (λ all. subst (λ (b : Bool). AreOfWays b c.in_ok-found.found)
     (met_edges (λ (e : Ticked). window_in p (window_about e c.edge_limits.result)) c.as_slice-regions.result.now
     ∙ ap (λ (ws : List Window). is_met ws false) are_windows) (c.in_ok-found.ensures.ways (are.all ∙ all)))
+
+pub returns-then-edges-clause-never : goal.returns-then-edges-clause-never
+returns-then-edges-clause-never g c input always = ap (λ (s : Slacks). s.before) c.none.ensures
+
+pub returns-clause-never : goal.returns-clause-never
+returns-clause-never g c input always =
+    let p = period c.args.view.now.circuit.now.header in
+    let cells = g.W.CyclicWave.cells c.args.clock.now in
+    let not_all = sym (c.in_ok-edges.ensures.are.all ∙ ap (all_events p) (may_are Rise cells)) ∙ c.if-edges.false in
+    let bad : true ≡ false = sym always ∙ not_all in
+    absurd (cc)

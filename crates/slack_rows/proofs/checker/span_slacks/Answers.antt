@@ -1,4 +1,4 @@
-use Rattle.std.proofs.Common.{◌≡◌, ℕ, ◌≤◌, Bool, false, ◌&&◌, List, Some, map, sym, ap, subst, ◌∙◌, arith}
+use Rattle.std.proofs.Common.{◌≡◌, ℕ, ◌≤◌, Bool, true, false, ◌&&◌, List, Some, map, sym, ap, subst, ◌∙◌, arith}
 use Rattle.std.specs.List.{All, AllByRecursion}
 use Rattle.scald_base.specs.Time.{period}
 use Rattle.fixpoint_engine.specs.Pins.{read}
@@ -9,6 +9,7 @@ use Rattle.critical_paths.specs.Event.{events}
 use Rattle.critical_paths.specs.Region.{some_event}
 use Rattle.critical_paths.specs.Views.{ticks_of_region}
 use Rattle.critical_paths.specs.declared.region.Region.{Region as Ticked}
+use Rattle.slack_rows.specs.declared.slack.Slacks.{Slacks}
 use Rattle.slack_rows.specs.Slack.{is_met}
 use Rattle.slack_rows.specs.Views.{window_about, window_in}
 use Rattle.slack_rows.specs.Held.{AreOfWays, IsInPeriod, launches_of, two_of, windows_about}
@@ -63,3 +64,12 @@ returns-clause-told g c =
     (λ all. subst (λ (b : Bool). AreOfWays b c.in_ok-found.found)
     (met_edges (λ (e : Ticked). window_in p (window_about e c.edge_limits.result)) c.as_slice-regions.result.now
     ∙ ap (λ (ws : List Window). is_met ws false) are_windows) (c.in_ok-found.ensures.ways (are.all ∙ all)))
+
+pub returns-then-stays_high-clause-never : goal.returns-then-stays_high-clause-never
+returns-then-stays_high-clause-never g c input always =
+    ap (λ (s : Slacks). s.before) c.none.ensures
+
+pub returns-clause-never : goal.returns-clause-never
+returns-clause-never g c input always =
+    let bad : true ≡ false = sym always ∙ sym c.stays_high.ensures ∙ c.if-stays_high.false in
+    absurd (cc)

@@ -11,13 +11,14 @@ use Rattle.fixpoint_engine.specs.Waves.{pin_wave, waves_of}
 use Rattle.fixpoint_engine.proofs.Fits.{long_pin}
 use Rattle.slack_rows.specs.declared.slack.By.TheVariants.{Pulse as ByPulse, Repeated, Swallowed}
 use Rattle.slack_rows.specs.Limit.{begin_of}
-use Rattle.slack_rows.specs.Pulse.{Pulse, left_at, may_change_again, narrowest, told_wave}
+use Rattle.slack_rows.specs.Pulse.{Pulse, changes_again, left_at, may_change_again, narrowest, told_wave}
 use Rattle.slack_rows.specs.Slack.{told_of}
+use Rattle.slack_rows.specs.Views.{comes_again}
 use Rattle.slack_rows.proofs.Breadths.{told_near, tells_swallowed, tells_whole, width_left, width_none, width_repeated, width_whole}
 use Rattle.slack_rows.proofs.width.width.Goals as goal
 
-pub returns-in_default : goal.returns-in_default
-returns-in_default g c =
+pub returns-in_default-clause-told : goal.returns-in_default-clause-told
+returns-in_default-clause-told g c =
     let circuit = c.args.view.now.circuit.now in
     let ws = waves_of c.args.view.now.waves.now in
     let pin = c.args.pin in
@@ -33,8 +34,8 @@ returns-in_default g c =
     ∙ sym c.narrowest.ensures.is ∙ c.in_default.is in
     ap (λ (o : Option Pulse). (told_of 0 (begin_of level) (told_wave limit left wave o)).slack) found
 
-pub returns-then-is_repeated : goal.returns-then-is_repeated
-returns-then-is_repeated g c =
+pub returns-then-is_repeated-clause-told : goal.returns-then-is_repeated-clause-told
+returns-then-is_repeated-clause-told g c =
     let circuit = c.args.view.now.circuit.now in
     let ws = waves_of c.args.view.now.waves.now in
     let pin = c.args.pin in
@@ -62,8 +63,8 @@ returns-then-is_repeated g c =
     c.told-repeated.ensures.tick (pos pulse.1) ends wave left Repeated c.told-repeated.ensures.way refl
     (width_repeated pulse limit (may_change_again wave pulse) left (sym again ∙ c.if-is_repeated.true)) refl)
 
-pub returns-then-not-may_vanish : goal.returns-then-not-may_vanish
-returns-then-not-may_vanish g c =
+pub returns-then-not-may_vanish-clause-told : goal.returns-then-not-may_vanish-clause-told
+returns-then-not-may_vanish-clause-told g c =
     let circuit = c.args.view.now.circuit.now in
     let ws = waves_of c.args.view.now.waves.now in
     let pin = c.args.pin in
@@ -92,8 +93,8 @@ returns-then-not-may_vanish g c =
     (width_whole pulse limit (may_change_again wave pulse) left
     (sym c.may_vanish.ensures ∙ c.if-not-may_vanish.true)) refl)
 
-pub returns-in-None : goal.returns-in-None
-returns-in-None g c =
+pub returns-in-None-clause-told : goal.returns-in-None-clause-told
+returns-in-None-clause-told g c =
     let circuit = c.args.view.now.circuit.now in
     let ws = waves_of c.args.view.now.waves.now in
     let pin = c.args.pin in
@@ -122,8 +123,8 @@ returns-in-None g c =
     (width_none pulse limit (may_change_again wave pulse) left
     (sym c.in_ok-swallowed.ensures.left ∙ ap (option_map (λ left. left.1)) c.in-None.is)) refl)
 
-pub returns : goal.returns
-returns g c =
+pub returns-clause-told : goal.returns-clause-told
+returns-clause-told g c =
     let circuit = c.args.view.now.circuit.now in
     let ws = waves_of c.args.view.now.waves.now in
     let pin = c.args.pin in
@@ -155,3 +156,67 @@ returns g c =
     c.told-gone.ensures.tick n ends wave left c.told-gone.ensures.way one
     (width_left pulse limit (may_change_again wave pulse) left n (sym again ∙ c.if-is_repeated.false)
     (sym c.in_ok-swallowed.ensures.left ∙ is) narrow))
+
+pub returns-then-is_repeated-clause-again : goal.returns-then-is_repeated-clause-again
+returns-then-is_repeated-clause-again g c =
+    let circuit = c.args.view.now.circuit.now in
+    let ws = waves_of c.args.view.now.waves.now in
+    let pin = c.args.pin in
+    let wave = read (pin_wave circuit ws pin).cells in
+    let cells = c.wave-shown.ensures ∙ ap (λ (w : Wave Value). w.cells) c.in_ok-wave.ensures in
+    let long = ap length cells
+    ∙ long_pin circuit ws pin c.requires.sees.fit.each_slot c.requires.pin in
+    let found = sym (λ i. narrowest (long i) c.args.level (read (cells i)))
+    ∙ sym c.narrowest.ensures.is ∙ c.in-Some.is in
+    let again : c.is_repeated.result ≡ may_change_again wave c.in-Some.pulse =
+    c.is_repeated.ensures ∙ ap (λ xs. may_change_again (read xs) c.in-Some.pulse) cells in
+    ap comes_again c.told-repeated.ensures.way ∙ sym c.if-is_repeated.true ∙ again
+    ∙ sym (ap (changes_again wave) found)
+
+pub returns-then-not-may_vanish-clause-again : goal.returns-then-not-may_vanish-clause-again
+returns-then-not-may_vanish-clause-again g c =
+    let circuit = c.args.view.now.circuit.now in
+    let ws = waves_of c.args.view.now.waves.now in
+    let pin = c.args.pin in
+    let wave = read (pin_wave circuit ws pin).cells in
+    let cells = c.wave-shown.ensures ∙ ap (λ (w : Wave Value). w.cells) c.in_ok-wave.ensures in
+    let long = ap length cells
+    ∙ long_pin circuit ws pin c.requires.sees.fit.each_slot c.requires.pin in
+    let found = sym (λ i. narrowest (long i) c.args.level (read (cells i)))
+    ∙ sym c.narrowest.ensures.is ∙ c.in-Some.is in
+    let again : c.is_repeated.result ≡ may_change_again wave c.in-Some.pulse =
+    c.is_repeated.ensures ∙ ap (λ xs. may_change_again (read xs) c.in-Some.pulse) cells in
+    ap comes_again c.told-wide.ensures.way ∙ sym c.if-is_repeated.false ∙ again
+    ∙ sym (ap (changes_again wave) found)
+
+pub returns-in-None-clause-again : goal.returns-in-None-clause-again
+returns-in-None-clause-again g c =
+    let circuit = c.args.view.now.circuit.now in
+    let ws = waves_of c.args.view.now.waves.now in
+    let pin = c.args.pin in
+    let wave = read (pin_wave circuit ws pin).cells in
+    let cells = c.wave-shown.ensures ∙ ap (λ (w : Wave Value). w.cells) c.in_ok-wave.ensures in
+    let long = ap length cells
+    ∙ long_pin circuit ws pin c.requires.sees.fit.each_slot c.requires.pin in
+    let found = sym (λ i. narrowest (long i) c.args.level (read (cells i)))
+    ∙ sym c.narrowest.ensures.is ∙ c.in-Some.is in
+    let again : c.is_repeated.result ≡ may_change_again wave c.in-Some.pulse =
+    c.is_repeated.ensures ∙ ap (λ xs. may_change_again (read xs) c.in-Some.pulse) cells in
+    ap comes_again c.told-kept.ensures.way ∙ sym c.if-is_repeated.false ∙ again
+    ∙ sym (ap (changes_again wave) found)
+
+pub returns-clause-again : goal.returns-clause-again
+returns-clause-again g c =
+    let circuit = c.args.view.now.circuit.now in
+    let ws = waves_of c.args.view.now.waves.now in
+    let pin = c.args.pin in
+    let wave = read (pin_wave circuit ws pin).cells in
+    let cells = c.wave-shown.ensures ∙ ap (λ (w : Wave Value). w.cells) c.in_ok-wave.ensures in
+    let long = ap length cells
+    ∙ long_pin circuit ws pin c.requires.sees.fit.each_slot c.requires.pin in
+    let found = sym (λ i. narrowest (long i) c.args.level (read (cells i)))
+    ∙ sym c.narrowest.ensures.is ∙ c.in-Some.is in
+    let again : c.is_repeated.result ≡ may_change_again wave c.in-Some.pulse =
+    c.is_repeated.ensures ∙ ap (λ xs. may_change_again (read xs) c.in-Some.pulse) cells in
+    ap comes_again c.told-gone.ensures.way ∙ sym c.if-is_repeated.false ∙ again
+    ∙ sym (ap (changes_again wave) found)

@@ -28,8 +28,8 @@ returns g c =
     let wave = read (pin_wave d ws pin).cells in (
       subst (Tells p c.in_ok-width.field-0)
           (ap (λ (limit : ℕ). told_of 0 (begin_of true) (told_wave limit (left_at d ws true pin) wave (narrowest p true wave))) c.high.ensures
-          ∙ level_told d ws j true (high_of j.limits) pin c.first_pin-pin.ensures) c.in_ok-width.ensures,
+          ∙ level_told d ws j true (high_of j.limits) pin c.first_pin-pin.ensures) c.in_ok-width.ensures.told,
       subst (Tells p c.in_ok-width-2.field-0)
           (ap (λ (limit : ℕ). told_of 0 (begin_of false) (told_wave limit (left_at d ws false pin) wave (narrowest p false wave))) c.low.ensures
-          ∙ level_told d ws j false (low_of j.limits) pin c.first_pin-pin.ensures) c.in_ok-width-2.ensures,
+          ∙ level_told d ws j false (low_of j.limits) pin c.first_pin-pin.ensures) c.in_ok-width-2.ensures.told,
     )
