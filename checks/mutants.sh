@@ -5,7 +5,7 @@
 # check` has built the library here, from the same text.
 # What each comes to is compared with checks/mutants/last, a line for each edit: whether it was refused and, if that
 # is written, by what. --keep writes there what this run found. --list says which edits there are, and tries none.
-# Usage: checks/mutants.sh [--keep | --list] [CRATE ..]. It ends with 0 if each edit is refused as before.
+# Usage: checks/mutants.sh [--keep | --list] [CRATE | CRATE/NAME ..]. It ends with 0 if each edit is refused as before.
 set -u
 top=$(CDPATH='' cd -- "$(dirname -- "$0")/.." && pwd) || exit 2
 edits=$top/checks/mutants
@@ -18,15 +18,20 @@ case ${1-} in
     ;;
 esac
 [ $# -gt 0 ] || set -- $(cd "$edits" && ls -d -- */ | tr -d /)
-for crate in "$@"; do
-    [ -d "$edits/$crate" ] && continue
-    echo "checks/mutants.sh: no edits of the crate $crate" >&2
+for asked in "$@"; do
+    [ -d "$edits/$asked" ] || [ -f "$edits/$asked.edit" ] && continue
+    echo "checks/mutants.sh: no edits of the crate $asked, and no edit of this name" >&2
     exit 2
 done
 
-# names CRATE ..: CRATE/NAME of each edit
+# names CRATE or CRATE/NAME ..: CRATE/NAME of each edit
 names() {
-    (cd "$edits" && for crate in "$@"; do ls -d -- "$crate"/*.edit; done) | sed 's/\.edit$//'
+    (cd "$edits" && for asked in "$@"; do
+        case $asked in
+        */*) echo "$asked" ;;
+        *) ls -d -- "$asked"/*.edit ;;
+        esac
+    done) | sed 's/\.edit$//' | sort -u
 }
 if [ "$mode" = list ]; then
     names "$@"
@@ -43,12 +48,15 @@ for built in "$top"/crates/*/out/rlib; do
     out=$work/copy/${built#"$top/"}
     mkdir -p "$out" && { cp -al "$built/." "$out" 2>"$work/said" || cp -a "$built/." "$out"; } || exit 2
 done
-for crate in "$@"; do
+crates=$(names "$@" | cut -d / -f 1 | sort -u)
+for crate in $crates; do
     rm -rf "$work/copy/crates/$crate/must-fail"
     mkdir "$work/copy/crates/$crate/must-fail" || exit 2
-    cp "$edits/$crate"/*.edit "$work/copy/crates/$crate/must-fail" || exit 2
 done
-(cd "$work/copy" && rt must-fail "$@") 2>&1 | tee "$work/said"
+for name in $(names "$@"); do
+    cp "$edits/$name.edit" "$work/copy/crates/${name%/*}/must-fail" || exit 2
+done
+(cd "$work/copy" && rt must-fail $crates) 2>&1 | tee "$work/said"
 
 # Of each edit a line CRATE/NAME: WHAT. What refused it is the clause and the file that the prover names.
 sed -n 's/^rt: must-fail \([^:]*\)\.edit: \(.*\)/\1: \2/p' "$work/said" |
