@@ -178,7 +178,7 @@ def source_type(crate, name):
 
 
 def resolve(target, name, module):
-    """The block that a name means which is imported from there, or none where the kit has it."""
+    """The block that a name means which is imported from there, or none if the kit has it."""
     if target.startswith("src:"):
         crate = target[4:].split("::")[0]
         crate = module.path.split("/")[1] if crate in ("crate", "self", "super") else crate

@@ -169,7 +169,7 @@ head -c $((bytes - 1)) "$alu" | "$program" verify | cmp -s - "$top/examples/alu.
 echo "cuts of alu.scald: $bytes tried, $wrong failed"
 
 # --- each limit, met and passed by one; and the texts that cost most
-# tries NAME STATUS LINE [WORD ..]: the text on standard input, verified with these words behind; the last line of the
+# tries NAME STATUS LINE [WORD ..]: the text on standard input, verified with these further words; the last line of the
 # answer must be LINE, or none be there if LINE is empty. A row may set how many seconds and KB it takes at most.
 tries() {
     name=$1

@@ -6,7 +6,7 @@
 # in about half a minute, which ./check does. It ends with the answers that came, and the time that it took.
 # Usage: checks/model.sh [--short] [PROGRAM [COUNT [FIRST]]], COUNT drawings from number FIRST on; each number has
 # always the same drawing. Needs python3.
-# Where an answer is wrong the text and both answers are kept in the folder KEPT, or else in the temporary one.
+# If an answer is wrong the text and both answers are kept in the folder KEPT, or else in the temporary one.
 . "$(dirname -- "$0")/common.sh"
 count=20000
 if [ "${1-}" = --short ]; then

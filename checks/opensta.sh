@@ -2,7 +2,7 @@
 # Compares the margins of imported netlists with the slacks that OpenSTA finds in the same netlists: those of
 # examples/yosys, generated data paths, and the DES cipher that Debian's package iverilog has as an example (opensta.py
 # says how). Each margin counts as one that is tried, each difference as a failure.
-# Usage: checks/opensta.sh [PROGRAM]. Where yosys or OpenSTA is not installed it says so, and ends with 77: skipped. By
+# Usage: checks/opensta.sh [PROGRAM]. If yosys or OpenSTA is not installed it says so, and ends with 77: skipped. By
 # hand: `./check` does not try it, since no line of it begins with `begin`.
 . "$(dirname -- "$0")/common.sh"
 if ! command -v yosys >/dev/null 2>&1 || ! command -v sta >/dev/null 2>&1; then

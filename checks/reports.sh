@@ -373,7 +373,7 @@ whole 'past a net that the case holds' chains 1 \
 whole 'margins inside a macro of two bits' margins 0 \
     'MACRO CHK2 {N=2} ("CK", "D"<0:N-1>);' 'c : SETUP_HOLD_CHK {SETUP=20, HOLD=10} ("CK", "D"<0:N-1>);' 'END;' 'DRAWING ROW;' 'u1 : CHK2 ("CK .P2-3", "D .S1-4"<0:1>);' 'END;' \
     -- 'SCALD 1 PERIOD 400' 'MARGIN u1/c<0> SETUP 30 NEXT CASE 0 SETUP EDGE 100 SLOT 50 VALUE C' 'MARGIN u1/c<0> HOLD 89 NEXT CASE 0 HOLD EDGE 100 SLOT 200 VALUE C' 'MARGIN u1/c<1> SETUP 30 NEXT CASE 0 SETUP EDGE 100 SLOT 50 VALUE C' 'MARGIN u1/c<1> HOLD 89 NEXT CASE 0 HOLD EDGE 100 SLOT 200 VALUE C' 'MARGINS 4'
-whole 'margins behind late wires' margins 0 \
+whole 'margins after late wires' margins 0 \
     'WIRE 0:20;' 'DRAWING ROW;' 'c1 : SETUP_HOLD_CHK {SETUP=20, HOLD=10} ("CK .P2-3", "D .S1-4");' 'END;' \
     -- 'SCALD 1 PERIOD 400' 'MARGIN c1<0> SETUP 10 NEXT CASE 0 SETUP EDGE 100 SLOT 70 VALUE C' 'MARGIN c1<0> HOLD 69 NEXT CASE 0 HOLD EDGE 120 SLOT 200 VALUE C' 'MARGINS 2'
 whole 'a margin where the clock is late as a whole' margins 0 \

@@ -4,7 +4,7 @@
 # nothing at all if the report is CLEAN. Then random drawings are tried against checks/model, which judges every run
 # and spoilt traces of it too: 500 drawings. --short tries 10 runs of each case and 60 drawings, which ./check does.
 # Usage: checks/runs.sh [--short] [PROGRAM [COUNT [FIRST]]], COUNT random drawings from number FIRST on. Needs python3.
-# Where a verdict is wrong the text is kept in the folder KEPT, or else in the temporary one.
+# If a verdict is wrong the text is kept in the folder KEPT, or else in the temporary one.
 . "$(dirname -- "$0")/common.sh"
 seeds=200
 count=500

@@ -91,7 +91,7 @@ sides 'a constant in a default and in a formal' 'CONST N = 3;' 'MACRO M {K=N-1} 
     'u : M ("X"<0:2>, "Y");' 'END;' -- 'REFUSED 3 Syntax 3:1' -- 'NETS 4 INSTANCES 0 CHECKS 0'
 sides 'a constant in a macro' 'CONST N = 3;' 'MACRO M ();' 'b : BUF [0:0] ("A") -> ("X"<N>);' 'END;' 'DRAWING ROW;' 'u : M ();' \
     'END;' -- 'REFUSED 3 Syntax 3:1' -- 'WAVE u/X<3> SKEW 0 S:400'
-sides 'a constant behind a macro' 'MACRO M ();' 'END;' 'CONST N = 3;' 'DRAWING ROW;' 'END;' -- 'REFUSED 3 Syntax 5:1' -- \
+sides 'a constant after a macro' 'MACRO M ();' 'END;' 'CONST N = 3;' 'DRAWING ROW;' 'END;' -- 'REFUSED 3 Syntax 5:1' -- \
     'REFUSED 3 Syntax 5:1'
 
 # --- FOR
@@ -128,7 +128,7 @@ loops 'no scope of nets' 'FOR I = 0 TO 1 DO b : BUF [0:0] ("A") -> ("X"<I>); END
 loops 'the ends are refused at FOR' 'FOR I = 0 TO 1 / 0 DO END;' 'REFUSED 21 ZeroDivisor 4:1'
 loops 'the first before the last' 'FOR I = J TO 1 / 0 DO END;' 'REFUSED 22 UnknownName 4:1'
 loops 'its own variable in an end' 'FOR I = 0 TO I DO END;' 'REFUSED 22 UnknownName 4:1'
-loops 'a variable behind its FOR' 'FOR I = 0 TO 0 DO END; IF I THEN END;' 'REFUSED 22 UnknownName 4:24'
+loops 'a variable after its FOR' 'FOR I = 0 TO 0 DO END; IF I THEN END;' 'REFUSED 22 UnknownName 4:24'
 # each value counts by itself, and the FOR too: 262144 in all may be
 loops 'as many values as may be' 'FOR I = 1 TO 262143 DO END;' 'NETS 0 INSTANCES 0 CHECKS 0' 'CLEAN'
 loops 'one value too many' 'FOR I = 1 TO 262144 DO END;' 'REFUSED 16 TooMany 4:1'

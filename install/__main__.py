@@ -42,7 +42,7 @@ def copied(program):
 
 
 def put(path, content, mode):
-    """In place of what is there, also where that is running."""
+    """In place of what is there, even if that is running."""
     path.parent.mkdir(parents=True, exist_ok=True)
     new = path.with_name(f".{path.name}.new")
     new.write_bytes(content)

@@ -12,7 +12,7 @@ def words(some):
 
 
 def patterns(language):
-    """In the order in which they are tried where several begin at one place."""
+    """In the order in which they are tried if several begin at one place."""
     yield {"name": "comment.line.double-dash.scald", "match": "--.*$"}
     yield {
         "name": "string.quoted.double.scald",

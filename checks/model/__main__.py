@@ -47,7 +47,7 @@ def words_of(mode, rounds):
 
 
 def answer_of(program, words, text):
-    """The program's own answer, whose outcome is left open where there is one, and what standard error says."""
+    """The program's own answer, whose outcome is left open if there is one, and what standard error says."""
     try:
         ended = subprocess.run([program, *words], input=text.encode(), capture_output=True, timeout=MOST_SECONDS)
     except subprocess.TimeoutExpired:

@@ -40,7 +40,7 @@ def ideal_step(clock, header, slot):
 
 
 def edges_overlap(clock, header):
-    """Whether two edges of a clock may come at one tick, where each moves by itself."""
+    """Whether two edges of a clock may come at one tick, if each moves by itself."""
     skew = skew_of(clock, header)
     edges = [slot for slot in range(header.period) if ideal_step(clock, header, slot) in (RISES, FALLS)]
     ticks = [(edge + move) % header.period for edge in edges for move in range(-skew.least, skew.greatest + 1)]
@@ -48,7 +48,7 @@ def edges_overlap(clock, header):
 
 
 def clock_wave(clock, header):
-    """The ideal clock as early as it may come, with a skew; folded where each edge moves by itself."""
+    """The ideal clock as early as it may come, with a skew; folded if each edge moves by itself."""
     skew = skew_of(clock, header)
     ideal = "".join(LETTER[ideal_step(clock, header, slot)] for slot in range(header.period))
     wave = normal(Wave(turned(ideal, -skew.least), skew.least + skew.greatest))

@@ -49,7 +49,7 @@ class Instance:
     pins: list
     marked: Optional[int]  # the number of the pin with !H
     output: Optional[Bit]
-    delay: Bounds  # where there are two, from the least to the greatest of both
+    delay: Bounds  # if there are two, from the least to the greatest of both
     split: Optional[Split]
     limits: dict  # of a checker, by its parameters
     place: Place
@@ -82,7 +82,7 @@ class Circuit:
     header: Header
     nets: list = field(default_factory=list)  # in the order of their first use
     assertions: dict = field(default_factory=dict)  # by path and base name
-    wires: dict = field(default_factory=dict)  # by net, where a WIRE statement says so
+    wires: dict = field(default_factory=dict)  # by net, if a WIRE statement says so
     instances: list = field(default_factory=list)  # in the order of expansion
     drivers: dict = field(default_factory=dict)  # the instance whose output a net is
     cases: list = field(default_factory=list)  # of each, the level of each of its nets

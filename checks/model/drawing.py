@@ -91,14 +91,14 @@ CHECKERS = {
 
 
 class Interval(NamedTuple):
-    """The units from `first` on and before `end`, over the end of the period where `end` is less."""
+    """The units from `first` on and before `end`, over the end of the period if `end` is less."""
 
     first: int
     end: int
 
 
 class Clock(NamedTuple):
-    """A clock, whose letter is P where it moves as a whole and C where each edge moves by itself."""
+    """A clock, whose letter is P if it moves as a whole and C if each edge moves by itself."""
 
     letter: str
     intervals: tuple
@@ -107,7 +107,7 @@ class Clock(NamedTuple):
 
 
 class Still(NamedTuple):
-    """A signal that does not change inside of the intervals, or never where there is none."""
+    """A signal that does not change inside of the intervals, or never if there is none."""
 
     intervals: tuple
 
@@ -117,7 +117,7 @@ Assertion = Union[Clock, Still]
 
 @dataclass
 class Name:
-    """A base name, with its `/` where it is global, and what it asserts."""
+    """A base name, with its `/` if it is global, and what it asserts."""
 
     base: str
     assertion: Optional[Assertion] = None
@@ -211,7 +211,7 @@ class Use:
     kind: str
     inputs: list
     outputs: list
-    delay: Optional[Delay] = None  # of rises alone, where there is a fall delay beside it
+    delay: Optional[Delay] = None  # of rises alone, if there is a fall delay beside it
     parameters: list = field(default_factory=list)
     fall: Optional[Delay] = None
     place: Optional[Place] = None

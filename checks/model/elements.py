@@ -28,7 +28,7 @@ def gate_bit(kind, bits):
 
 
 def forced_bits(setting, resetting):
-    """What set and reset make of an output: bits that it may have, or none where they leave it alone."""
+    """What set and reset make of an output: bits that it may have, or none if they leave it alone."""
     if setting and resetting:
         return BITS
     return {1} if setting else {0} if resetting else set()
@@ -53,7 +53,7 @@ def latch_steps(enable, data, setting=STAYS_LOW, resetting=STAYS_LOW):
 
 
 def output_steps(kind, steps):
-    """The steps that an output may make where the pins that it listens to make these."""
+    """The steps that an output may make if the pins that it listens to make these."""
     if kind in ("REG", "REG_RS"):
         return register_steps(*steps)
     if kind in ("LATCH", "LATCH_RS"):
@@ -72,7 +72,7 @@ def image(kind, values):
 
 @lru_cache(None)
 def slot_value(kind, values):
-    """The same, where wide gates go two pins at a time from the left, and multiplexers from the last select on."""
+    """The same, with wide gates two pins at a time from the left, and multiplexers from the last select on."""
     if kind in ("AND", "OR", "XOR") and len(values) > 2:
         return slot_value(kind, (image(kind, values[:2]), *values[2:]))
     if kind in ("AND", "OR", "XOR") and len(values) == 1:
@@ -121,7 +121,7 @@ def change_wave(waves, delay):
 
 
 def met(kind, waves):
-    """The waves meet slot by slot. One that moves alone keeps its skew; where more move each is folded before."""
+    """The waves meet slot by slot. One that moves alone keeps its skew; if more move each is folded before."""
     moving = [wave for wave in waves if not is_steady(wave)]
     if len(moving) > 1:
         waves, skew = [Wave(fold(wave), 0) for wave in waves], 0
@@ -153,7 +153,7 @@ def slots_before(wave, bounds):
 
 
 def may_have(slots, before_rise, before_fall, before_either, is_seen_by_both):
-    """For each slot, whether the output may have a level at its end, where these are the slots at whose end the
+    """For each slot, whether the output may have a level at its end, if these are the slots at whose end the
     inputs may give that level."""
     if is_seen_by_both:
         return [bool(slots & rise) and bool(slots & fall) for rise, fall in zip(before_rise, before_fall)]

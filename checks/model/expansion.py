@@ -79,7 +79,7 @@ def check_delay(delay, place, greatest=GREATEST_DELAY):
 
 
 def delays_of(use, parameters):
-    """The delay of a use, and both where there are two. All four expressions come before any of the bounds."""
+    """The delay of a use, and both if there are two. All four expressions come before any of the bounds."""
     place = use.place
     if use.delay is None:
         return Bounds(0, 0), None
@@ -113,7 +113,7 @@ def numbers_between(ends, place):
 
 
 def numbers_of(bits, parameters, place):
-    """The numbers of a range; None where there is none."""
+    """The numbers of a range; None if there is none."""
     return None if bits is None else numbers_between(ends_of(bits, parameters, place), place)
 
 
@@ -170,7 +170,7 @@ class Expansion:
         return bits
 
     def note_spread(self, scope, connection, width):
-        """Keeps the name of a connection whose one bit is spread over more, where it is a name alone and no formal."""
+        """Keeps the name of a connection whose one bit is spread over more, if it is a name alone and no formal."""
         term = connection.terms[0]
         if width == 1 or len(connection.terms) > 1 or isinstance(term.what, Constant) or term.range is not None:
             return

@@ -10,7 +10,7 @@ from .waves import fold
 
 
 class Fault(NamedTuple):
-    """A fault: what is written of it, the slot at which it was found, and the pin that shows it there, where it is not
+    """A fault: what is written of it, the slot at which it was found, and the pin that shows it there, if it is not
     that of a net."""
 
     kind: str
@@ -55,7 +55,7 @@ def setup_hold_fault(checker, clock, data, limits):
 
 
 def last_fall(clock, edge):
-    """The last slot in which the clock may fall while it may have been 1 since the edge, or None where none is; and
+    """The last slot in which the clock may fall while it may have been 1 since the edge, or None if none is; and
     whether it may stay at 1 in every slot."""
     period = len(clock)
     after = range(edge + 1, edge + period + 1)
@@ -111,7 +111,7 @@ def assertion_fault(circuit, waves, net):
 
 
 def shortest_pulse(wave, begin, step_out, stays, least):
-    """How long a pulse that begins in a slot may be, where that is less than the least; else None. The pulse is
+    """How long a pulse that begins in a slot may be, if that is less than the least; else None. The pulse is
     measured on the wave itself, since all of it is late together."""
     for width in range(1, least):
         value = wave.slots[(begin + width) % len(wave.slots)]

@@ -42,7 +42,7 @@ def laws_of_chain(circuit, fault, links, end):
 
 
 def is_as_margin(margin, least):
-    """A slack is the margin where one more is a fault; a fault has one that is broken; and a margin up to the limit has
+    """A slack is the margin if one more is a fault; a fault has one that is broken; and a margin up to the limit has
     no slack, or no smaller one."""
     if margin == "FAULT":
         return True
@@ -53,7 +53,7 @@ def is_as_margin(margin, least):
 
 
 def laws_of_slacks(circuit, settled, seen):
-    """Slacks are as the margins, and a bit or a net has a broken one exactly where it has a fault."""
+    """Slacks are as the margins, and a bit or a net has a broken one exactly if it has a fault."""
     with_fault = {str(fault.element) for case in settled.cases for fault in faults(circuit, case.waves)}
     for subject, limits in lower(circuit, settled.cases):
         leasts = [limit.least for limit in limits]

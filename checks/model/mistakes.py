@@ -10,7 +10,7 @@ LETTERS = "ABDEOIl0158_"
 
 
 def slipped(base, random):
-    """A base with one letter more, less, changed or exchanged, or in another case; all of them where one might be none."""
+    """A base with one letter more, less, changed or exchanged, or in another case; all of them if one might be none."""
     slash, base = ("/", base[1:]) if base.startswith("/") else ("", base)
     place = random.randrange(len(base))
     letter = random.choice(LETTERS)

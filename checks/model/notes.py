@@ -218,7 +218,7 @@ class Paths:
         return {"0": 0, "1": 1}.get(shown.pop()) if len(shown) == 1 else None
 
     def hearing(self, element):
-        """The numbers of the pins that the output may change with: the marked one alone where its rule holds, and of
+        """The numbers of the pins that the output may change with: the marked one alone if its rule holds, and of
         data only what the selects that stay at a bit do not exclude."""
         if id(element) not in self.heard:
             self.heard[id(element)] = self.heard_by(element)

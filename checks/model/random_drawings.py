@@ -41,7 +41,7 @@ class Room(NamedTuple):
     is_inner: bool
     inputs: list
     outputs: list
-    formals: dict  # of each, the numbers of its bits, or None where it has no range
+    formals: dict  # of each, the numbers of its bits, or None if it has no range
     parameters: dict  # and constants, with their values, and variables, each with its first value
 
 
@@ -138,7 +138,7 @@ class Maker:
     # --- expressions
 
     def make_number(self, value, parameters):
-        """An expression with this value, where the parameters have these."""
+        """An expression with this value, if the parameters have these."""
         if parameters and self.chance(0.4):
             word = self.random.choice(list(parameters))
             more = value - parameters[word]
@@ -206,7 +206,7 @@ class Maker:
         return [self.written_delay(bounds, parameters) for bounds in self.make_split()]
 
     def make_delays(self, kind, parameters):
-        """One delay, or now and then two where the kind may have them."""
+        """One delay, or now and then two if the kind may have them."""
         if kind in SPLIT_KINDS and self.chance(0.4):
             return self.written_split(parameters)
         return self.make_delay(parameters), None
@@ -214,7 +214,7 @@ class Maker:
     # --- connections
 
     def formal_term(self, room, base, width):
-        """So many bits of a formal, where it has so many."""
+        """So many bits of a formal, if it has so many."""
         numbers = room.formals[base]
         if numbers is None:
             return Term(Name(base), Range(Number(0)) if self.chance(0.2) else None)

@@ -92,8 +92,8 @@ def report(circuit, version, settled, mode):
 
 
 def answer(drawing, rounds, told):
-    """The answer on a drawing whose text is written, with another limit of rounds where one is given: what is told of
-    the settled circuit, lines and a number of faults where faults are looked for; or why there is none."""
+    """The answer on a drawing whose text is written, with another limit of rounds if one is given: what is told of
+    the settled circuit, lines and a number of faults if faults are looked for; or why there is none."""
     try:
         circuit = circuit_of(drawing)
         settled = settle_all(circuit, default_limit(circuit) if rounds is None else rounds)

@@ -122,7 +122,7 @@ def default_limit(circuit):
 
 
 def settle_all(circuit, limit, crossing=frozenset()):
-    """The base and each case settled; the one case 0 where none is listed."""
+    """The base and each case settled; the one case 0 if none is listed."""
     at_base = base(circuit, limit, crossing)
     if not circuit.cases:
         return Settled(at_base.rounds, [CaseRest(0, at_base.waves, 0)])

@@ -24,7 +24,7 @@ RULES = {
 
 
 class BadSection(Exception):
-    """The section, from 1, that breaks a rule, and the net with which it does, where the rule speaks of nets."""
+    """The section, from 1, that breaks a rule, and the net with which it does, if the rule speaks of nets."""
 
     def __init__(self, rule, section, net=None):
         super().__init__(RULES[rule])

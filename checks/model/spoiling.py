@@ -13,7 +13,7 @@ GREATEST_NUMBER = 2**63 - 1
 
 
 def some_use(drawing, random, kinds=None):
-    """A use, of one of these kinds where any are named; or None where there is none."""
+    """A use, of one of these kinds if any are named; or None if there is none."""
     found = [use for body in bodies(drawing) for use in uses(body) if kinds is None or use.kind in kinds]
     return random.choice(found) if found else None
 
@@ -77,7 +77,7 @@ def double_declaration(drawing, random):
 
 
 def default_of_a_parameter(drawing, random):
-    """A default is computed without any parameter, so another's name is not there where the use gives it."""
+    """A default is computed without any parameter, so another's name is not there if the use gives it."""
     found = [macro for macro in drawing.macros if macro.parameters]
     if found:
         macro = random.choice(found)
@@ -250,5 +250,5 @@ SPOILS = [
 
 
 def spoil(drawing, random):
-    """Changes one thing, where the drawing has such a thing."""
+    """Changes one thing, if the drawing has such a thing."""
     random.choice(SPOILS)(drawing, random)

@@ -80,7 +80,7 @@ def spoil(trace, random):
 
 
 def printed(circuit):
-    """Of each case its printed tick and what has a fault in it, by number; nothing where the waves do not settle."""
+    """Of each case its printed tick and what has a fault in it, by number; nothing if the waves do not settle."""
     try:
         settled = settle_all(circuit, default_limit(circuit))
     except Unsettled:

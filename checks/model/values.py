@@ -45,7 +45,7 @@ def complement(values):
 
 
 def cover(steps, unknown):
-    """The least value that permits these steps: U where all four are there and something unknown went into them."""
+    """The least value that permits these steps: U if all four are there and something unknown went into them."""
     if steps == ALL_STEPS:
         return "U" if unknown else "C"
     return next(value for value in "01SRFC" if steps <= STEPS[value])
