@@ -116,6 +116,11 @@ gives 'long names' '' "$(module "$(port "$long" input 2), $(port "${long}b" outp
     "MACRO m (\"${short}_0\") -> (\"${short}_1\", \"${short}_2\");" 'END;'
 gives 'nets' '' "$(module '' "$(cell u 2 3), $(cell v 4 5)" "$(net '\\a[1].b#$' 0 2), $(net b 0 3), $(net ONE 0 5)")" \
     'MACRO m ();' '  u : T ("a_1_$b#$") -> ("b");' '  v : T ("b_0") -> ("nONE");' 'END;'
+gives 'ports' '' "$(module "$(port a.b input 2), $(port 'a$b' output 3), $(port 'c#' input 4)" "$(cell u 2 3), $(cell v 5 6)" "$(net a.b 0 5), $(net a_b 0 6)")" \
+    'MACRO m ("a_b", "c_") -> ("a_b_0");' '  u : T ("a_b") -> ("a_b_0");' '  v : T ("a$b") -> ("a_b_1");' 'END;'
+gives 'ports of a kind' cells "$(module '' '"u": {"type": "T", "port_directions": {"c.d": "input", "c$d": "input", "9": "output", "END": "output"},
+    "connections": {"c.d": [2], "c$d": [3, 4], "9": [5], "END": [6]}}')" \
+    'MACRO T ("c_d", "c_d_0"<1:0>) -> ("n9", "nEND");' 'END;'
 
 # --- black boxes
 box='{"modules": {"ram": {"attributes": {"blackbox": "0001"}, "ports": {"d": {"direction": "input", "bits": [0, 1]}, "q": {"direction": "output", "bits": [2]}}},

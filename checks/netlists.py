@@ -404,7 +404,7 @@ class Macro:
         self.bits = {}
         self.width = {}
         self.hidden = self.unknown = self.thrus = 0
-        self.called = [self.nets.name(base(port)) for port, _, _ in self.ports]
+        self.called = [self.nets.name(word(port)) for port, _, _ in self.ports]
         for way in ("input", "output"):
             for called, (_, direction, bits) in zip(self.called, self.ports):
                 if direction == way:
@@ -519,7 +519,7 @@ def head(name, ports):
 
 def empty(name, ports):
     place = Place()
-    return head(name, [(place.name(base(port)), way, width) for port, way, width in ports]) + "\nEND;\n"
+    return head(name, [(place.name(word(port)), way, width) for port, way, width in ports]) + "\nEND;\n"
 
 
 def model(text, only_cells):
@@ -575,7 +575,7 @@ def model(text, only_cells):
 
 # --- random netlists
 
-ODD_NAMES = ["a", "a b", "\\\\a", "a.b", "$x", "END", "AND", "b", "b_0", "c0", "n0", "x0", "x1", "thru0", "9", "", "é", "a" * 64, "a" * 70, "a" * 62 + "_0", "A"]
+ODD_NAMES = ["a", "a b", "\\\\a", "a.b", "a$b", "a_b", "a#b", "$x", "END", "AND", "b", "b_0", "c0", "n0", "x0", "x1", "thru0", "9", "", "é", "a" * 64, "a" * 70, "a" * 62 + "_0", "A"]
 
 
 class Netlists:

@@ -12,7 +12,7 @@ use Rattle.netlist_import.specs.declared.netlist.Port.{Port}
 use Rattle.netlist_import.specs.declared.netlist.NetName.{NetName}
 use Rattle.netlist_import.specs.declared.netlist.Module.{Module}
 use Rattle.netlist_import.specs.declared.nets.Net.{Net}
-use Rattle.netlist_import.specs.Words.{after_backslash, base_byte, base_of, counted, free, is_reserved, marked}
+use Rattle.netlist_import.specs.Words.{after_backslash, base_byte, base_of, counted, free, is_reserved, marked, word_byte, word_of}
 use Rattle.netlist_import.specs.Fresh.{fresh, is_new, least_number, numbered}
 use Rattle.netlist_import.specs.Kinds.{has_bits}
 use Rattle.netlist_import.specs.Nets.{Wanted, Wires, all_wanted, hidden_after, names_a_bit, net_name, nets_wanted, no_nets, own_nets, own_wires, port_wanted, widths, with_all, with_net, with_other, with_undriven, with_wanted}
@@ -141,8 +141,8 @@ ports_wanted : (ports : List Port) → AllByRecursion IsWanted (map port_wanted 
 ports_wanted [] = tt
 ports_wanted (p ∷ ports) = (at (has_bits p), ports_wanted ports)
   where
-    at : (b : Bool) → IsWanted (cond b (Some (base_of p.name)) None)
-    at true = free_called (map base_byte (after_backslash p.name))
+    at : (b : Bool) → IsWanted (cond b (Some (word_of p.name)) None)
+    at true = free_called (map word_byte (after_backslash p.name))
     at false = tt
 
 net_wanted : (hidden : ℕ) (n : NetName) → is_called (net_name hidden n) ≡ true

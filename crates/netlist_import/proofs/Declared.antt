@@ -27,7 +27,7 @@ use Rattle.drawing_tree.proofs.Every.{every_append}
 
 -- ---- some of a list, in its order
 
-abbrev IsSub : List (List ℕ) → List (List ℕ) → Type 0
+abbrev pub IsSub : List (List ℕ) → List (List ℕ) → Type 0
 IsSub xs [] = xs ≡ []
 IsSub xs (y ∷ ys) = IsSub xs ys ⊎ ((rest : List (List ℕ)) × (xs ≡ y ∷ rest) × IsSub rest ys)
 
@@ -35,7 +35,7 @@ sub_none : (ys : List (List ℕ)) → IsSub [] ys
 sub_none [] = refl
 sub_none (y ∷ ys) = inl (sub_none ys)
 
-sub_all : (P : List ℕ → Type 0) (ys xs : List (List ℕ)) → IsSub xs ys → AllByRecursion P ys →
+pub sub_all : (P : List ℕ → Type 0) (ys xs : List (List ℕ)) → IsSub xs ys → AllByRecursion P ys →
     AllByRecursion P xs
 sub_all P [] xs s all = subst (λ (l : List (List ℕ)). AllByRecursion P l) (sym s) tt
 sub_all P (y ∷ ys) xs (inl s) all = sub_all P ys xs s all.1
@@ -51,7 +51,7 @@ sub_distinct (y ∷ ys) xs (inr s) distinct =
     subst (λ (l : List (List ℕ)). IsDistinct bytes_eq l) (sym s.1)
     (sub_all (λ z. bytes_eq y z ≡ false) ys s.0 s.2 distinct.0, sub_distinct ys s.0 s.2 distinct.1)
 
-sub_both : (ys xs vs us : List (List ℕ)) → IsSub xs ys → IsSub us vs → IsSub (xs ++ us) (ys ++ vs)
+pub sub_both : (ys xs vs us : List (List ℕ)) → IsSub xs ys → IsSub us vs → IsSub (xs ++ us) (ys ++ vs)
 sub_both [] xs vs us s t = subst (λ (l : List (List ℕ)). IsSub (l ++ us) vs) (sym s) t
 sub_both (y ∷ ys) xs vs us (inl s) t = inl (sub_both ys xs vs us s t)
 sub_both (y ∷ ys) xs vs us (inr s) t =
@@ -59,7 +59,7 @@ sub_both (y ∷ ys) xs vs us (inr s) t =
 
 -- ---- labels
 
-labels_both : (ss ts : List tree.Statement) →
+pub labels_both : (ss ts : List tree.Statement) →
     labels (listed (ss ++ ts)) ≡ labels (listed ss) ++ labels (listed ts)
 unfolding listed
 labels_both [] ts = refl
@@ -67,7 +67,7 @@ labels_both (s ∷ ss) ts =
     ap (λ (ls : List (List ℕ)). statement_labels s ++ ls) (labels_both ss ts)
     ∙ sym (append_assoc (statement_labels s) (labels (listed ss)) (labels (listed ts)))
 
-cells_sub : (cells : List Cell) (names : List (List ℕ)) (used : List (Option Shape)) (s : Nets) →
+pub cells_sub : (cells : List Cell) (names : List (List ℕ)) (used : List (Option Shape)) (s : Nets) →
     IsSub (labels (listed (cells_written cells names used s).statements)) names
 unfolding listed cells_written
 cells_sub [] names used s = sub_none names
@@ -83,7 +83,7 @@ cells_sub (c ∷ cs) (name ∷ names) (Some shape ∷ used) s =
           used next,
     )
 
-buffers_sub : (nets : List Net) (names : List (List ℕ)) (os : List Outlet) →
+pub buffers_sub : (nets : List Net) (names : List (List ℕ)) (os : List Outlet) →
     IsSub (labels (listed (buffers nets names os))) names
 unfolding listed buffers
 buffers_sub nets [] os = refl
@@ -91,12 +91,12 @@ buffers_sub nets (name ∷ names) [] = sub_none (name ∷ names)
 buffers_sub nets (name ∷ names) (o ∷ os) =
     inr (labels (listed (buffers nets names os)), refl, buffers_sub nets names os)
 
-each_labelled : (hidden : ℕ) (cells : List Cell) → length (cell_labels hidden cells) ≡ length cells
+pub each_labelled : (hidden : ℕ) (cells : List Cell) → length (cell_labels hidden cells) ≡ length cells
 unfolding cell_labels
 each_labelled hidden [] = refl
 each_labelled hidden (c ∷ cs) = ap (λ (n : ℕ). suc n) (each_labelled (hidden_after hidden c) cs)
 
-each_buffer : (n : ℕ) (os : List Outlet) → length (buffer_labels n os) ≡ length os
+pub each_buffer : (n : ℕ) (os : List Outlet) → length (buffer_labels n os) ≡ length os
 unfolding buffer_labels
 each_buffer n [] = refl
 each_buffer n (o ∷ os) = ap (λ (k : ℕ). suc k) (each_buffer (n + 1) os)
@@ -126,10 +126,10 @@ own_distinct m small =
     taken_distinct (all_wanted m) (widths m) (no_nets (own_wires m)) none_distinct short
 
 -- Some name ports that lead one way, the others ports that lead the other.
-abbrev picked : Direction → List Formal → List (List ℕ) → List (List ℕ)
+abbrev pub picked : Direction → List Formal → List (List ℕ) → List (List ℕ)
 picked way fs names = map (λ f. f.base) (formals_named way fs names)
 
-some_picked : (P : List ℕ → Type 0) (way : Direction) (fs : List Formal)
+pub some_picked : (P : List ℕ → Type 0) (way : Direction) (fs : List Formal)
     (names : List (List ℕ)) → AllByRecursion P names → AllByRecursion P (picked way fs names)
 unfolding formals_named
 some_picked P way [] names all = tt

@@ -1,4 +1,4 @@
--- The names of macros and the labels of cells are words, and differ.
+-- The names of macros are words, and differ.
 use Rattle.std.proofs.Common.{◌≡◌, ℕ, ◌+◌, ◌<◌, ◌^◌, Bool, true, false, ◌&&◌, List, [], ◌∷◌, ◌++◌, length, map, refl, sym, ap, subst, ◌∙◌, arith}
 use Rattle.std.specs.Prelude.{not}
 use Rattle.std.specs.List.{AllByRecursion, IsDistinct, list_all, list_any}
@@ -72,7 +72,7 @@ distinct_both (k ∷ ks) names a b none = (
 
 -- ---- names of one place
 
-names_each : (P Q : List ℕ → Type 0) → ((taken : List (List ℕ)) (name : List ℕ) →
+pub names_each : (P Q : List ℕ → Type 0) → ((taken : List (List ℕ)) (name : List ℕ) →
     length taken < 2 ^ 64 → Q name → P (fresh taken name)) →
     (taken names : List (List ℕ)) → length taken + length names < 2 ^ 64 → AllByRecursion Q names →
     AllByRecursion P (names_after taken names)

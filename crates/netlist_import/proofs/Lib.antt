@@ -21,6 +21,7 @@ pub mod Distinct
 pub mod WordBytes
 pub mod GoodNames
 pub mod Declared
+pub mod Worded
 pub mod Called
 pub mod Sourced
 pub mod NamedBits

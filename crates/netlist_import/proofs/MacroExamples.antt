@@ -1,6 +1,7 @@
 -- Names, kinds, nets and terms, worked out on paper.
 use Rattle.std.proofs.Common.{◌≡◌, ℕ, true, false, List, [], ◌∷◌, Some, None, refl}
-use Rattle.std.specs.Prelude.{codes}
+use Rattle.std.specs.Prelude.{◌++◌, codes, replicate}
+use Rattle.std.specs.Fmt.{digits}
 use Rattle.netlist_import.specs.declared.netlist.Bit as netlist
 use Rattle.netlist_import.specs.declared.netlist.Bit.TheVariants as bit
 use Rattle.netlist_import.specs.declared.netlist.Direction.{Direction}
@@ -10,6 +11,7 @@ use Rattle.netlist_import.specs.declared.netlist.Cell.{Cell}
 use Rattle.netlist_import.specs.declared.netlist.NetName.{NetName}
 use Rattle.netlist_import.specs.declared.netlist.Module.{Module}
 use Rattle.netlist_import.specs.Words.{base_of, kind_word_of, word_of}
+use Rattle.netlist_import.specs.Fresh.{fresh, least_from, numbered}
 use Rattle.netlist_import.specs.Kinds.{fits, joins, kind_of, with_cell, with_ports}
 use Rattle.netlist_import.specs.Nets.{names_a_bit, numbered_from, own_wires, wire_of, with_bits, with_vectors}
 use Rattle.netlist_import.specs.Body.{runs_from, runs_of}
@@ -38,9 +40,31 @@ primitive_type = refl
 primitive_label : word_of (codes "AND") ≡ codes "AND"
 primitive_label = refl
 
--- In the name of a net a point becomes `$`, which stays.
-net_name : base_of (codes "u1.q$2[3]") ≡ codes "u1$q$2_3_"
+-- In the name of a port a point, `$` and `#` become `_`.
+port_name : word_of (codes "u1.q$2#[3]") ≡ codes "u1_q_2__3_"
+port_name = refl
+
+-- In that of a net which is no port a point becomes `$`, which stays, and so does `#`.
+net_name : base_of (codes "u1.q$2#[3]") ≡ codes "u1$q$2#_3_"
 net_name = refl
+
+-- What is taken ends in the least number that is not, also where a longer number would fit.
+taken_name : fresh (codes "a" ∷ codes "a_1" ∷ codes "a_0" ∷ []) (codes "a") ≡ codes "a_2"
+unfolding digits fresh least_from
+taken_name = refl
+
+-- 64 bytes stay, and of more so many that the number fits.
+longest_name : fresh [] (replicate 64 97) ≡ replicate 64 97
+unfolding digits fresh least_from
+longest_name = refl
+
+longer_name : fresh [] (replicate 65 97) ≡ replicate 62 97 ++ codes "_0"
+unfolding digits fresh least_from
+longer_name = refl
+
+two_digits : numbered (replicate 64 97) 10 ≡ replicate 61 97 ++ codes "_10"
+unfolding digits
+two_digits = refl
 
 -- ---- terms
 

@@ -13,7 +13,7 @@ use Rattle.netlist_import.specs.declared.netlist.Module.{Module}
 use Rattle.netlist_import.specs.declared.nets.Net.{Net}
 use Rattle.netlist_import.specs.declared.nets.Wire.{Wire}
 use Rattle.netlist_import.specs.declared.shapes.Shape.{Shape}
-use Rattle.netlist_import.specs.Words.{base_of, counted}
+use Rattle.netlist_import.specs.Words.{counted, word_of}
 use Rattle.netlist_import.specs.Fresh.{fresh}
 use Rattle.netlist_import.specs.Kinds.{has_bits}
 use Rattle.netlist_import.specs.Nets.{Wanted, Wires, all_wanted, hidden_after, is_in_net, names_a_bit, net_name, nets_wanted, next_wire, no_nets, own_nets, own_wires, port_wanted, widths, wire_of, with_all, with_net, with_other, with_undriven, with_wanted}
@@ -63,7 +63,7 @@ ports_none : (n : ℕ) (ports : List Port) (others : List Wanted) (more : List (
 ports_none n [] others more i rest e h = rest i (omega arith) e h
 ports_none n (p ∷ ports) others more zero rest e h = at (has_bits p) refl e
   where
-    at : (b : Bool) → has_bits p ≡ b → Some (cond b (Some (base_of p.name)) None) ≡ Some None → ⊥
+    at : (b : Bool) → has_bits p ≡ b → Some (cond b (Some (word_of p.name)) None) ≡ Some None → ⊥
     at true f g = absurd (cc)
     at false f g = none_in n p.bits f h
 ports_none n (p ∷ ports) others more (suc i) rest e h =

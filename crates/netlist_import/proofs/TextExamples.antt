@@ -1,5 +1,5 @@
 -- Whole macros of small modules, worked out on paper.
-use Rattle.std.proofs.Common.{◌≡◌, ℕ, Bool, true, false, List, [], ◌∷◌, ◌++◌, map, refl}
+use Rattle.std.proofs.Common.{◌≡◌, ℕ, Bool, true, false, List, [], ◌∷◌, refl}
 use Rattle.std.specs.Prelude.{codes}
 use Rattle.std.specs.Fmt.{digits}
 use Rattle.drawing_tree.specs.Canonical.{body_lines, bracketed, bracketed_if_some, else_lines, macro_head, macro_lines, statement_lines, statements_lines, use_head, use_text}
@@ -131,3 +131,23 @@ of_named : text_of (named ∷ [])
     ≡ codes "MACRO m ();\n  u : T (\"n1\"<1> & \"a$b\" & \"n0\");\nEND;\n"
 unfolding digits condition_text body_lines bracketed bracketed_if_some statement_lines statements_lines else_lines macro_head macro_lines use_head use_text fresh least_from names_after all_uses_after joins kinds_after uses_after with_cell with_ports shaped downwards nets_wanted numbered_from stand_along with_all with_bits with_vectors all_outlets buffer_labels buffers cell_labels cells_written connected formals_named listed port_outlets runs_from modules_written
 of_named = refl
+
+-- ---- ports whose words are one, and nets of their names
+
+abbrev worded : Module
+worded = module_of false (codes "m")
+    (port (codes "a.b") Input (bit.Number 2 ∷ []) ∷ port (codes "a$b") Output (bit.Number 3 ∷ [])
+    ∷ port (codes "END") Input (bit.Number 4 ∷ []) ∷ [])
+    (cell (codes "u") (codes "T") (port (codes "c.d") Input (bit.Number 2 ∷ bit.Number 5 ∷ [])
+    ∷ port (codes "c$d") Input (bit.Number 3 ∷ bit.Number 6 ∷ []) ∷ []) ∷ [])
+    (net false (codes "a.b") (bit.Number 5 ∷ []) ∷ net false (codes "a_b") (bit.Number 6 ∷ []) ∷ [])
+
+of_worded : text_of (worded ∷ [])
+    ≡ codes "MACRO m (\"a_b\", \"nEND\") -> (\"a_b_0\");\n  u : T (\"a$b\" & \"a_b\", \"a_b_1\" & \"a_b_0\");\nEND;\n"
+unfolding digits condition_text body_lines bracketed bracketed_if_some statement_lines statements_lines else_lines macro_head macro_lines use_head use_text fresh least_from names_after all_uses_after joins kinds_after uses_after with_cell with_ports shaped downwards nets_wanted numbered_from stand_along with_all with_bits with_vectors all_outlets buffer_labels buffers cell_labels cells_written connected formals_named listed port_outlets runs_from modules_written
+of_worded = refl
+
+worded_kind : macros_text (cell_macros (worded ∷ []))
+    ≡ codes "MACRO T (\"c_d\"<1:0>, \"c_d_0\"<1:0>);\nEND;\n"
+unfolding digits condition_text body_lines bracketed bracketed_if_some statement_lines statements_lines else_lines macro_head macro_lines fresh least_from names_after joins kinds_after with_cell with_ports shaped formals_named boxes_written
+worded_kind = refl

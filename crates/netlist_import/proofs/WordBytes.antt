@@ -9,11 +9,11 @@ use Rattle.std.proofs.lemmas.Fmt.{decimal_by_steps, length-decimal-le}
 use Rattle.std.proofs.lemmas.List.{append_assoc, length-append}
 use Rattle.std.proofs.lemmas.List.Folds.{list_all-append}
 use Rattle.std.proofs.lemmas.Slice.Eq.{bytes_eq-Decides}
-use Rattle.scald_base.specs.Word.{IsWord, begins_word, is_digit, is_letter, is_word_byte, longest_word, reserved_words}
+use Rattle.scald_base.specs.Word.{begins_word, is_digit, is_letter, is_word_byte, longest_word, reserved_words}
 use Rattle.scald_base.specs.Word as word
 use Rattle.element_kinds.specs.Kinds.{kind_names}
 use Rattle.drawing_tree.specs.WellFormed.{IsFreeWord}
-use Rattle.netlist_import.specs.Words.{after_backslash, begins_with_letter, free, free_kind, is_primitive, is_reserved, kind_word_of, marked, word_byte, word_of}
+use Rattle.netlist_import.specs.Words.{after_backslash, begins_with_letter, free, free_kind, is_primitive, is_reserved, is_taken, kind_word_of, marked, word_byte, word_of}
 use Rattle.netlist_import.specs.Fresh.{fresh, is_new, least_from, least_number, numbered}
 use Rattle.netlist_import.proofs.Distinct.{turned}
 use Rattle.netlist_import.proofs.New.{was_taken}
@@ -47,9 +47,9 @@ begins [] e all = absurd (cc)
 begins (b ∷ bs) e all = rw (e, (and_parts (is_word_byte b) (list_all is_word_byte bs) all).1) refl
 
 pub spelled_free : (x : List ℕ) → list_all is_word_byte x ≡ true → IsSpelled (free x)
-spelled_free x all = at (not (begins_with_letter x) || is_reserved x) refl
+spelled_free x all = at (is_taken x) refl
   where
-    at : (b : Bool) → (not (begins_with_letter x) || is_reserved x) ≡ b → IsSpelled (marked b x)
+    at : (b : Bool) → is_taken x ≡ b → IsSpelled (marked b x)
     at true e = record { form = all; free = refl }
     at false e =
         let parts = or_parts (not (begins_with_letter x)) (is_reserved x) e in
@@ -71,20 +71,19 @@ pub spelled_kind : (name : List ℕ) → IsSpelledKind (kind_word_of name)
 spelled_kind name = by (map word_byte (after_backslash name)) (each_byte (after_backslash name))
   where
     by : (x : List ℕ) → list_all is_word_byte x ≡ true → IsSpelledKind (free_kind x)
-    by x all = at (not (begins_with_letter x) || (is_reserved x || is_primitive x)) refl
+    by x all = at (is_taken x || is_primitive x) refl
       where
-        at : (b : Bool) → (not (begins_with_letter x) || (is_reserved x || is_primitive x)) ≡ b →
-            IsSpelledKind (marked b x)
+        at : (b : Bool) → (is_taken x || is_primitive x) ≡ b → IsSpelledKind (marked b x)
         at true e = record { spelled = record { form = all; free = refl }; other = refl }
         at false e =
-            let parts = or_parts (not (begins_with_letter x)) (is_reserved x || is_primitive x) e in
-            let names = or_parts (is_reserved x) (is_primitive x) parts.1 in
+            let kinds = or_parts (is_taken x) (is_primitive x) e in
+            let parts = or_parts (not (begins_with_letter x)) (is_reserved x) kinds.0 in
             record {
               spelled = record {
                 form = begins x (was_taken (begins_with_letter x) parts.0) all;
-                free = turned_any reserved_words x names.0;
+                free = turned_any reserved_words x parts.1;
               };
-              other = names.1;
+              other = kinds.1;
             }
 
 -- ---- numbers
@@ -117,12 +116,18 @@ word_digits (d ∷ ds) all =
     digit : (d : ℕ) → is_digit d ≡ true → is_word_byte d ≡ true
     digit d e = rw e (either (is_letter d) (d == 95))
 
--- a letter and a number
-pub spelled_counted : (letter n : ℕ) → n < 2 ^ 64 → is_letter letter ≡ true →
-    word.is_reserved (letter ∷ decimal n) ≡ false →
-    IsSpelled (letter ∷ decimal n)
-spelled_counted letter n h is other = record {
-  form = rw (is, word_digits (decimal n) (decimal_digits n h)) refl;
+longer_word : (name tail : List ℕ) → begins_word name ≡ true → list_all is_word_byte tail ≡ true →
+    begins_word (name ++ tail) ≡ true
+longer_word [] tail e all = absurd (cc)
+longer_word (b ∷ bs) tail e all =
+    let parts = and_parts (is_letter b) (list_all is_word_byte bs) e in
+    rw (parts.0, list_all-append is_word_byte bs tail, parts.1, all) refl
+
+-- a word and a number
+pub spelled_counted : (name : List ℕ) (n : ℕ) → n < 2 ^ 64 → begins_word name ≡ true →
+    word.is_reserved (name ++ decimal n) ≡ false → IsSpelled (name ++ decimal n)
+spelled_counted name n h is other = record {
+  form = longer_word name (decimal n) is (word_digits (decimal n) (decimal_digits n h));
   free = other;
 }
 

@@ -6,7 +6,7 @@ use Rattle.drawing_tree.specs.Canonical.{macro_lines}
 use Rattle.netlist_import.specs.declared.netlist.Direction.TheVariants.{Input, Output}
 use Rattle.netlist_import.specs.declared.netlist.Module.{Module}
 use Rattle.netlist_import.specs.Fault.{is_used}
-use Rattle.netlist_import.specs.Words.{base_of}
+use Rattle.netlist_import.specs.Words.{word_of}
 use Rattle.netlist_import.specs.Fresh.{names_after}
 use Rattle.netlist_import.specs.Kinds.{all_uses}
 use Rattle.netlist_import.specs.Shapes.{shapes, number_of_used}
@@ -34,7 +34,7 @@ design_macros ms = modules_written (shapes ms) ms (shapes ms)
 -- ---- the cells
 
 abbrev pub formal_names : List Formal → List (List ℕ)
-formal_names fs = names_after [] (map (λ f. base_of f.name) fs)
+formal_names fs = names_after [] (map (λ f. word_of f.name) fs)
 
 -- a macro with nothing in it
 abbrev pub empty_macro : Shape → tree.Macro

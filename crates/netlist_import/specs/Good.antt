@@ -7,6 +7,8 @@ use Rattle.netlist_import.specs.Fresh.{names_after}
 use Rattle.netlist_import.specs.Nets.{numbered_from, own_nets, wire_of}
 use Rattle.netlist_import.specs.declared.nets.Nets.{Nets}
 use Rattle.netlist_import.specs.Body.{all_outlets, cell_labels, cells_written, macro_of}
+use Rattle.netlist_import.specs.Design.{empty_macro}
+use Rattle.netlist_import.specs.Kinds.{formals_of}
 use Rattle.netlist_import.specs.Shapes.{shapes}
 use Rattle.netlist_import.specs.declared.nets.Net.{Net}
 use Rattle.netlist_import.specs.declared.nets.Wire.{Wire}
@@ -48,6 +50,21 @@ abbrev pub ModulesDeclareOnce : Type 0
 ModulesDeclareOnce =
     (shape : Shape) (m : Module) (used : List (Option Shape)) → IsModest m used →
     DeclaresOnce (macro_of shape m used)
+
+-- Each label and each port is a word that is not reserved.
+pub record DeclaresWords (m : tree.Macro) : Type 0 where
+  pub labels_free : All IsFreeWord (labels m.body)
+  pub ports_free : All IsFreeWord (map (λ f. f.base) (m.ins ++ m.outs))
+
+-- So it is of the macro that a module becomes with its own ports, whatever its name.
+abbrev pub ModulesDeclareWords : Type 0
+ModulesDeclareWords =
+    (name : List ℕ) (m : Module) (used : List (Option Shape)) → IsModest m used →
+    DeclaresWords (macro_of (record { name = name; ports = formals_of m.ports }) m used)
+
+-- So it is of a macro that is still to be filled in.
+abbrev pub CellsDeclareWords : Type 0
+CellsDeclareWords = (shape : Shape) → length shape.ports < 2 ^ 64 → DeclaresWords (empty_macro shape)
 
 -- ---- what bits are called
 

@@ -9,7 +9,7 @@ use Rattle.netlist_import.specs.declared.netlist.Direction.TheVariants.{Input, O
 use Rattle.netlist_import.specs.declared.netlist.Port.{Port}
 use Rattle.netlist_import.specs.declared.netlist.NetName.{NetName}
 use Rattle.netlist_import.specs.declared.netlist.Module.{Module}
-use Rattle.netlist_import.specs.Words.{base_of, counted}
+use Rattle.netlist_import.specs.Words.{base_of, counted, word_of}
 use Rattle.netlist_import.specs.Fresh.{fresh}
 use Rattle.netlist_import.specs.Kinds.{is_same_way, has_bits}
 use Rattle.netlist_import.specs.declared.nets.Nets.{Nets}
@@ -100,7 +100,7 @@ abbrev pub Wanted : Type 0
 Wanted = Option (List ℕ)
 
 abbrev pub port_wanted : Port → Wanted
-port_wanted p = if has_bits p then Some (base_of p.name) else None
+port_wanted p = if has_bits p then Some (word_of p.name) else None
 
 -- what a net is to be called that names a bit, after so many such nets that are hidden
 abbrev pub net_name : ℕ → NetName → List ℕ

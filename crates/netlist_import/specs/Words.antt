@@ -32,16 +32,19 @@ is_primitive name = list_any (bytes_eq name) kind_names
 abbrev pub marked : Bool → List ℕ → List ℕ
 marked is_marked name = if is_marked then codes "n" ++ name else name
 
+-- no word, or one that stands for something else
+abbrev pub is_taken : List ℕ → Bool
+is_taken name = not (begins_with_letter name) || is_reserved name
+
 -- What does not begin with a letter, or is reserved, gets `n` in front.
 abbrev pub free : List ℕ → List ℕ
-free name = marked (not (begins_with_letter name) || is_reserved name) name
+free name = marked (is_taken name) name
 
 -- The word of a macro is not the name of a primitive either.
 abbrev pub free_kind : List ℕ → List ℕ
-free_kind name = marked (not (begins_with_letter name) || (is_reserved name || is_primitive name))
-    name
+free_kind name = marked (is_taken name || is_primitive name) name
 
--- the word that a label is called by
+-- the word that a label or a port is called by
 abbrev pub word_of : List ℕ → List ℕ
 word_of name = free (map word_byte (after_backslash name))
 
@@ -49,7 +52,7 @@ word_of name = free (map word_byte (after_backslash name))
 abbrev pub kind_word_of : List ℕ → List ℕ
 kind_word_of name = free_kind (map word_byte (after_backslash name))
 
--- the base that a port or a net is called by
+-- the base that a net that is no port is called by
 abbrev pub base_of : List ℕ → List ℕ
 base_of name = free (map base_byte (after_backslash name))
 

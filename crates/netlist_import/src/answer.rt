@@ -1,6 +1,6 @@
 //! The reply to a text.
 
-ghost use Rattle.std.specs.Prelude.{◌≡◌, ◌≤◌, ◌++◌, OnOk, IfOk, decimal, length};
+ghost use Rattle.std.specs.Prelude.{◌≡◌, ◌≤◌, ◌++◌, OnOk, IfOk, length};
 ghost use Rattle.netlist_import.specs.Answer.{Imported, most_bytes, refusal_line, text_of};
 
 use crate::forms::Command;
@@ -8,17 +8,11 @@ use crate::library::{add_cells, add_design};
 use crate::netlist::Netlist;
 use crate::outcome::ImportOutcome;
 use crate::read::{NetlistEnd, NetlistRefusal, read_netlist};
-use itoa::Buffer;
+use crate::text::add_number;
 use listing::Output;
 use program_call::Reply;
 use scald_base::{Bytes, NoMemory};
 use std::alloc::Global;
-
-fn add_number(out: &mut Bytes, number: u64) -> Result<(), NoMemory>
-    ensures { OnOk result (out.new ≡ out.old ++ decimal number) }
-{
-    out.extend(Buffer::new().format(number).as_bytes())
-}
 
 /// Puts the line of a refused text at the end of `out`.
 #[tactic(auto, unfolding(crate::specs::Answer::refusal_line))]
@@ -26,13 +20,13 @@ fn add_refusal(out: &mut Bytes, refusal: NetlistRefusal) -> Result<(), NoMemory>
     ensures { OnOk result (out.new ≡ out.old ++ refusal_line refusal) }
 {
     out.extend(b"REFUSED ")?;
-    add_number(out, u64::from(refusal.kind.number()))?;
+    add_number(out, usize::from(refusal.kind.number()))?;
     out.push(b' ')?;
     out.extend(refusal.kind.name().as_bytes())?;
     out.push(b' ')?;
-    add_number(out, u64::from(refusal.place.line))?;
+    add_number(out, refusal.place.line as usize)?;
     out.push(b':')?;
-    add_number(out, u64::from(refusal.place.col))?;
+    add_number(out, refusal.place.col as usize)?;
     out.push(b'\n')
 }
 

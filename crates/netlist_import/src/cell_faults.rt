@@ -1,6 +1,6 @@
 //! The first fault of the cells of a module. Each function gives that of one part.
 
-ghost use Rattle.std.specs.Prelude.{◌≡◌, ◌==◌, ◌||◌, None, codes, is_some, map, not, option_map};
+ghost use Rattle.std.specs.Prelude.{◌≡◌, ◌==◌, ◌||◌, None, codes, is_some, map, option_map};
 ghost use Rattle.std.specs.List.{list_any};
 ghost use Rattle.netlist_import.specs.Fault as spec;
 ghost use Rattle.netlist_import.specs.Netlist.{directions_given, members_in, text_under};
@@ -27,16 +27,11 @@ fn is_like(port: &Port, name: &[u8], width: usize) -> bool
     same_bytes(port.name.as_slice(), name) && is_width(width, port.bits.len())
 }
 
-/// Whether no port has this name, and its width if there are bits.
-fn is_unlike(ports: &[Port], name: &[u8], width: usize) -> bool
-    ensures { result ≡ not (list_any (spec.is_like name.now width) ports.now) }
+/// Whether one of the ports has this name, and its width if there are bits.
+fn has_like(ports: &[Port], name: &[u8], width: usize) -> bool
+    ensures { result ≡ list_any (spec.is_like name.now width) ports.now }
 {
-    for port in ports {
-        if is_like(port, name, width) {
-            return false;
-        }
-    }
-    true
+    ports.iter().any(|port| is_like(port, name, width))
 }
 
 /// Whether a cell gives a direction to a connection of this name.
@@ -64,7 +59,7 @@ fn connection_fault(ports: Option<&[Port]>, cell: &Json, member: &Member) -> Fou
         return fault_at(FaultKind::TooWide, value);
     }
     if let Some(ports) = ports {
-        if is_unlike(ports, name, values.len()) {
+        if !has_like(ports, name, values.len()) {
             return fault_at(FaultKind::UnlikeCells, value);
         }
     }

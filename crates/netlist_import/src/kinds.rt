@@ -78,12 +78,9 @@ fn agrees(ports: &[Formal], connection: &Port) -> bool
 fn all_agree(ports: &[Formal], connections: &[Port]) -> bool
     ensures { result ≡ list_all (spec.agrees ports.now) connections.now }
 {
-    for connection in connections {
-        if !agrees(ports, connection) {
-            return false;
-        }
-    }
-    true
+    connections
+        .iter()
+        .all(|connection| agrees(ports, connection))
 }
 
 /// Whether a cell is of a kind.

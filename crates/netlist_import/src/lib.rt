@@ -58,7 +58,8 @@ mod tool;
 pub use fault::FaultKind;
 pub use forms::Command;
 pub use laws::{
-    bits_are_told_apart, macros_are_named, modules_declare_once, names_tell_bits_apart,
+    bits_are_told_apart, cells_declare_words, macros_are_named, modules_declare_once,
+    modules_declare_words, names_tell_bits_apart,
 };
 pub use outcome::{ImportOutcome, import_status};
 pub use read::NetlistRefusal;

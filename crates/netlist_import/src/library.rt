@@ -6,7 +6,7 @@ ghost use Rattle.netlist_import.specs.Design.{boxes_written, cell_macros, design
 ghost use Rattle.netlist_import.specs.Fresh.{fresh, names_after};
 ghost use Rattle.netlist_import.specs.Kinds.{all_uses};
 ghost use Rattle.netlist_import.specs.Shapes.{number_of_used, shapes};
-ghost use Rattle.netlist_import.specs.Words.{base_of};
+ghost use Rattle.netlist_import.specs.Words.{word_of};
 
 use crate::body::add_module;
 use crate::head::add_head;
@@ -15,7 +15,7 @@ use crate::names::Names;
 use crate::netlist::Module;
 use crate::shapes::{Formal, Shape, Shapes, shapes_of};
 use crate::types::Types;
-use crate::words::base_of;
+use crate::words::word_of;
 use scald_base::{Bytes, List, NoMemory};
 use std::alloc::Global;
 
@@ -76,9 +76,9 @@ pub(crate) fn add_design(alloc: Global, out: &mut Bytes, modules: &[Module]) -> 
 
 /// Takes the name that a port of a macro has in it.
 fn take_name(alloc: Global, names: &mut Names, port: &Formal) -> Result<(), NoMemory>
-    ensures { OnOk result (names.new ≡ names.old ++ fresh names.old (base_of port.now.name) ∷ []) }
+    ensures { OnOk result (names.new ≡ names.old ++ fresh names.old (word_of port.now.name) ∷ []) }
 {
-    let wanted = base_of(alloc, port.name.as_slice())?;
+    let wanted = word_of(alloc, port.name.as_slice())?;
     names.take(alloc, wanted)
 }
 
@@ -86,7 +86,7 @@ fn take_name(alloc: Global, names: &mut Names, port: &Formal) -> Result<(), NoMe
 #[tactic(auto, unfolding(crate::specs::Fresh::names_after))]
 fn take_names(alloc: Global, names: &mut Names, ports: &[Formal]) -> Result<(), NoMemory>
     ensures { OnOk result (names.new
-        ≡ names.old ++ names_after names.old (map (λ f. base_of f.name) ports.now)) }
+        ≡ names.old ++ names_after names.old (map (λ f. word_of f.name) ports.now)) }
 {
     for port in ports {
         take_name(alloc, names, port)?;

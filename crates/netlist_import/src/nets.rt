@@ -10,7 +10,7 @@ use crate::kinds::is_same_way;
 use crate::names::Names;
 use crate::netlist::{Bit, Direction, Module, NetName, Port};
 use crate::text::add_connection;
-use crate::words::{base_of, counted};
+use crate::words::{base_of, counted, word_of};
 use indexmap::IndexMap;
 use scald_base::{Bytes, List, NoMemory};
 use std::alloc::Global;
@@ -205,12 +205,7 @@ fn is_named_by(places: &Places, net: usize, bit: Bit) -> bool
 fn names_a_bit(places: &Places, net: usize, bits: &[Bit]) -> bool
     ensures { result ≡ spec.names_a_bit places.now net bits.now }
 {
-    for bit in bits {
-        if is_named_by(places, net, *bit) {
-            return true;
-        }
-    }
-    false
+    bits.iter().any(|bit| is_named_by(places, net, *bit))
 }
 
 /// What a net is to be called, after so many others that are hidden.
@@ -291,7 +286,7 @@ impl Nets {
         if port.bits.is_empty() {
             return self.add_unnamed(alloc, port.bits.len());
         }
-        let wanted = base_of(alloc, port.name.as_slice())?;
+        let wanted = word_of(alloc, port.name.as_slice())?;
         self.add(alloc, wanted, port.bits.len())?;
         Ok(())
     }

@@ -1,8 +1,8 @@
 //! The spelling of names.
 
-ghost use Rattle.std.specs.Prelude.{◌≡◌, ◌||◌, IfOk, map, not};
+ghost use Rattle.std.specs.Prelude.{◌≡◌, ◌||◌, IfOk, map};
 ghost use Rattle.scald_base.specs.Word.{is_letter, is_word_byte};
-ghost use Rattle.netlist_import.specs.Words.{after_backslash, base_byte, base_of, begins_with_letter, counted, is_primitive, is_reserved, kind_word_of, marked, word_byte, word_of};
+ghost use Rattle.netlist_import.specs.Words.{after_backslash, base_byte, base_of, begins_with_letter, counted, is_primitive, is_reserved, is_taken, kind_word_of, marked, word_byte, word_of};
 
 use element_kinds::is_kind_name;
 use scald_base::{Bytes, NoMemory, same_bytes};
@@ -81,24 +81,16 @@ fn is_reserved(word: &[u8]) -> bool
 
 /// Whether a word is no label or base: it does not begin with a letter, or is reserved.
 fn is_taken(word: &[u8]) -> bool
-    ensures { result ≡ (not (begins_with_letter word.now) || is_reserved word.now) }
+    ensures { result ≡ is_taken word.now }
 {
     !begins_with_letter(word) || is_reserved(word)
 }
 
-/// Whether a word is reserved, or a primitive.
-fn is_in_use(word: &[u8]) -> bool
-    ensures { result ≡ (is_reserved word.now || is_primitive word.now) }
-{
-    is_reserved(word) || is_kind_name(word)
-}
-
 /// Whether a word is no macro: it does not begin with a letter, is reserved or a primitive.
 fn is_taken_kind(word: &[u8]) -> bool
-    ensures { result ≡ (not (begins_with_letter word.now)
-        || (is_reserved word.now || is_primitive word.now)) }
+    ensures { result ≡ (is_taken word.now || is_primitive word.now) }
 {
-    !begins_with_letter(word) || is_in_use(word)
+    is_taken(word) || is_kind_name(word)
 }
 
 /// A word with `n` in front, or the word itself.
@@ -153,7 +145,7 @@ pub(crate) fn kind_word_of(alloc: Global, name: &[u8]) -> Result<Bytes, NoMemory
     marked(alloc, is_taken_kind(word.as_slice()), word.as_slice())
 }
 
-/// The base that a net is called by.
+/// The base that a net is called by, if it is no port.
 pub(crate) fn base_of(alloc: Global, name: &[u8]) -> Result<Bytes, NoMemory>
     ensures { IfOk result (λ base. base ≡ base_of name.now) }
 {
