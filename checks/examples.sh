@@ -138,7 +138,7 @@ sed 's/"D .S1-4"/"D .S2-4"/' "$work/shown1" >"$work/text"
 "$program" explain <"$work/text" | sed -n '/^1[.] /,/^$/p' | sed '/^$/,$d' | cmp -s - "$work/shown4" ||
     failure 'README.md: another explanation'
 
-for report in "$top"/examples/*.report "$top"/examples/*.notes "$top"/examples/*.margins "$top"/examples/*.chains "$top"/examples/*.explained \
+for report in "$top"/examples/*.report "$top"/examples/*.notes "$top"/examples/*.margins "$top"/examples/*.chains "$top"/examples/*.explained "$top"/examples/*.svg \
     "$top"/examples/sections/*.report "$top"/examples/sections/*.margins "$top"/examples/sections/*.crossings; do
     [ -f "${report%.*}.scald" ] || [ -f "${report%.*}.sections" ] ||
         failure "$(basename -- "$report"): no drawing beside it"

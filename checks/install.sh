@@ -161,7 +161,7 @@ offers() {
 LC_ALL=C
 export LC_ALL
 if ! passed_over bash; then
-    offers '--help;--quiet;--unproved;--version;-h;bench;chains;explain;format;import;install;judge;margins;notes;run;sections;slack;upgrade;vcd;verify' scald ''
+    offers '--help;--quiet;--unproved;--version;-h;bench;chains;draw;explain;format;import;install;judge;margins;notes;run;sections;slack;upgrade;vcd;verify' scald ''
     offers 'vcd;verify' scald v
     offers '--unproved' scald --u
     offers 'format' scald --quiet f
@@ -173,6 +173,8 @@ if ! passed_over bash; then
     offers '' scald bench ''
     offers 'case=' scald run c
     offers 'tick=' scald vcd t
+    offers 'case=' scald draw c
+    offers 'rounds=;row.scald' scald draw case=0 r
     offers 'vast.scald' scald judge 0 v
     offers 'cells;cpu.json;sub folder' scald import ''
     offers 'sub folder' scald install ''
@@ -186,7 +188,7 @@ if ! passed_over zsh; then
     warned 'zsh warns'
     # a line that is typed, and what is offered after it
     cat >"$work/rows" <<'END'
-scald |bench;chains;explain;format;import;install;judge;margins;notes;run;sections;slack;upgrade;vcd;verify
+scald |bench;chains;draw;explain;format;import;install;judge;margins;notes;run;sections;slack;upgrade;vcd;verify
 scald v|vcd;verify
 scald --u|--unproved
 scald --quiet f|format
@@ -198,6 +200,8 @@ scald upgrade s|sub folder
 scald bench |
 scald run c|case=
 scald vcd t|tick=
+scald draw c|case=
+scald draw case=0 r|rounds=;row.scald
 scald judge 0 v|vast.scald
 scald import |cells;cpu.json;sub folder
 scald install |sub folder

@@ -178,6 +178,7 @@ forms='usage:
     scald run T SEED [case=K] <DRAWING                 a run of T ticks that a seed draws, 1 to 4096, as a trace
     scald vcd T SEED [case=K] [tick=1ns] <DRAWING      the same run as a value change dump, for a wave viewer
     scald judge F <TRACE-AND-DRAWING                   whether the trace is a run, and what breaks in it from tick F on
+    scald draw case=K [rounds=N] <DRAWING              the waves of a case as a picture; K is 0 if no case is listed
     scald import [cells] <NETLIST                      macros of a netlist that yosys wrote as JSON, or of its kinds of cells, to fill in
     scald bench N                                      what is found in a made drawing of N sections, 1 to 200'
 
@@ -292,6 +293,15 @@ none "'case=0' cannot come after '0': K is 1 to 256, without zeros in front" run
 none "'case=257' cannot come after '0': K is 1 to 256, without zeros in front" run 6 0 case=257
 none "'cases=2' cannot come after '0': is case=K meant?" run 6 0 cases=2
 none "'x' cannot come after 'case=1'" run 6 0 case=1 x
+none "a word is missing after 'draw'" draw
+none "'case=257' cannot come after 'draw': K is 0 to 256, without zeros in front" draw case=257
+none "'case=00' cannot come after 'draw': K is 0 to 256, without zeros in front" draw case=00
+none "'cases=0' cannot come after 'draw': is case=K meant?" draw cases=0
+none "'waves' cannot come after 'draw'" draw waves
+none "'rounds=0' cannot come after 'case=0': N is 1 to 10000000, without zeros in front" draw case=0 rounds=0
+none "'x' cannot come after 'case=0'" draw case=0 x
+none "'x' cannot come after 'rounds=1'" draw case=0 rounds=1 x
+none "unknown command 'drwa': is draw meant?" drwa
 none "a word is missing after 'vcd'" vcd
 none "a word is missing after '6'" vcd 6
 none "'0' cannot come after 'vcd': T is 1 to 4096, without zeros in front" vcd 0 7

@@ -41,7 +41,8 @@ class Command(NamedTuple):
     @property
     def fronts(self):
         """The fronts `NAME=` of what may come as NAME=N."""
-        return tuple(setting[: setting.index("=") + 1] for setting in self.settings)
+        said = (*self.numbers, *self.settings)
+        return tuple(word[: word.index("=") + 1] for word in said if "=" in word)
 
 
 class Language(NamedTuple):

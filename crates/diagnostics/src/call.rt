@@ -8,9 +8,9 @@ use scald_base::{Bytes, Words};
 use std::alloc::Global;
 
 /// The words that a form begins with.
-const COMMANDS: [&[u8]; 14] = [
+const COMMANDS: [&[u8]; 15] = [
     b"verify", b"notes", b"format", b"upgrade", b"slack", b"explain", b"margins", b"chains",
-    SECTIONS, b"run", b"vcd", b"judge", b"import", b"bench",
+    SECTIONS, b"run", b"vcd", b"judge", b"draw", b"import", b"bench",
 ];
 
 const SECTIONS: &[u8] = b"sections";
@@ -19,19 +19,24 @@ const SECTIONS: &[u8] = b"sections";
 #[derive(Clone, Copy)]
 struct Bounds(&'static [u8], u64, u64);
 
-/// What words go on with: with one of these words, if with any, or with a number.
+/// What words go on with: with one of these words, if with any; with a number; or with `case=` and
+/// a number.
 #[derive(Clone, Copy)]
 enum Next {
     Word(&'static [&'static [u8]]),
     Number(Bounds),
+    Case(Bounds),
 }
 
 /// The numbers that stand behind a word.
 const NUMBERED: [(&[u8], Bounds); 3] = [
     (b"rounds=", Bounds(b"N", 1, 10_000_000)),
     (b"worst=", Bounds(b"N", 1, 65_536)),
-    (b"case=", Bounds(b"K", 1, 256)),
+    (CASE, Bounds(b"K", 1, 256)),
 ];
+
+/// The front of the word for a case.
+const CASE: &[u8] = b"case=";
 
 /// The front of the word for the length of a tick.
 const TICK: &[u8] = b"tick=";
@@ -39,7 +44,7 @@ const TICK: &[u8] = b"tick=";
 const SEEDS: Bounds = Bounds(b"SEED", 0, u64::MAX);
 
 /// What a form goes on with, by its command and how many words stand after that.
-const FORMS: [(&[u8], usize, Next); 16] = [
+const FORMS: [(&[u8], usize, Next); 18] = [
     (
         b"verify",
         0,
@@ -58,6 +63,8 @@ const FORMS: [(&[u8], usize, Next); 16] = [
     (b"vcd", 2, Next::Word(&[b"case=K", b"tick=1ns"])),
     (b"vcd", 3, Next::Word(&[b"tick=1ns"])),
     (b"judge", 0, Next::Number(Bounds(b"F", 0, 4096))),
+    (b"draw", 0, Next::Case(Bounds(b"K", 0, 256))),
+    (b"draw", 1, Next::Word(&[b"rounds=N"])),
     (b"import", 0, Next::Word(&[b"cells"])),
     (b"bench", 0, Next::Number(Bounds(b"N", 1, 200))),
 ];
@@ -150,6 +157,8 @@ pub fn explain_words(alloc: Global, words: &Words, number: u32) -> Lines {
             match next_of(before) {
                 Next::Word(words) => add_meant(&mut out, words, word),
                 Next::Number(bounds) => add_bounds(&mut out, bounds),
+                Next::Case(bounds) if word.starts_with(CASE) => add_bounds(&mut out, bounds),
+                Next::Case(_) => add_meant(&mut out, &[b"case=K"], word),
             }
         }
     }

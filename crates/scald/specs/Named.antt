@@ -18,13 +18,16 @@ use Rattle.section_compose.specs.Outcome.{status_of as sections_status}
 use Rattle.trace_tool.specs.Simulator.{simulator}
 use Rattle.trace_tool.specs.declared.outcome.TraceOutcome.{TraceOutcome}
 use Rattle.trace_tool.specs.Outcome.{status_of as trace_status}
+use Rattle.draw_report.specs.Answer.{draw_program}
+use Rattle.draw_report.specs.declared.outcome.DrawOutcome.{DrawOutcome}
+use Rattle.draw_report.specs.Outcome.{status_of as draw_status}
 use Rattle.netlist_import.specs.Answer.{importer}
 use Rattle.netlist_import.specs.declared.outcome.ImportOutcome.{ImportOutcome}
 use Rattle.netlist_import.specs.Outcome.{status_of as import_status}
 use Rattle.scald.specs.declared.named.Answer.{Answer}
 use Rattle.scald.specs.declared.named.Answer.TheVariants as answer
 use Rattle.scald.specs.declared.named.Call.{Call}
-use Rattle.scald.specs.declared.named.Call.TheVariants.{Tool, Notes, Margins, Chains, Slacks, Sections, Simulator, Importer}
+use Rattle.scald.specs.declared.named.Call.TheVariants.{Tool, Notes, Margins, Chains, Slacks, Sections, Simulator, Pictures, Importer}
 
 -- that of the verifier if it names no other, or there is none
 abbrev pub call_of : List (List ℕ) → Call
@@ -39,8 +42,9 @@ call_of (first ∷ others) =
     else (if bytes_eq first (codes "run") then Simulator
     else (if bytes_eq first (codes "vcd") then Simulator
     else (if bytes_eq first (codes "judge") then Simulator
+    else (if bytes_eq first (codes "draw") then Pictures
     else (if bytes_eq first (codes "import") then Importer
-    else Tool)))))))))
+    else Tool))))))))))
 
 -- ---- the answer
 
@@ -48,25 +52,36 @@ abbrev pub of_drawing : (Outcome → Type 0) → Answer → Type 0
 of_drawing Is (answer.Drawing o) = Is o
 of_drawing Is (answer.Sections o) = ⊥
 of_drawing Is (answer.Run o) = ⊥
+of_drawing Is (answer.Picture o) = ⊥
 of_drawing Is (answer.Netlist o) = ⊥
 
 abbrev pub of_sections : (SectionsOutcome → Type 0) → Answer → Type 0
 of_sections Is (answer.Drawing o) = ⊥
 of_sections Is (answer.Sections o) = Is o
 of_sections Is (answer.Run o) = ⊥
+of_sections Is (answer.Picture o) = ⊥
 of_sections Is (answer.Netlist o) = ⊥
 
 abbrev pub of_run : (TraceOutcome → Type 0) → Answer → Type 0
 of_run Is (answer.Drawing o) = ⊥
 of_run Is (answer.Sections o) = ⊥
 of_run Is (answer.Run o) = Is o
+of_run Is (answer.Picture o) = ⊥
 of_run Is (answer.Netlist o) = ⊥
 
 abbrev pub of_netlist : (ImportOutcome → Type 0) → Answer → Type 0
 of_netlist Is (answer.Drawing o) = ⊥
 of_netlist Is (answer.Sections o) = ⊥
 of_netlist Is (answer.Run o) = ⊥
+of_netlist Is (answer.Picture o) = ⊥
 of_netlist Is (answer.Netlist o) = Is o
+
+abbrev pub of_picture : (DrawOutcome → Type 0) → Answer → Type 0
+of_picture Is (answer.Drawing o) = ⊥
+of_picture Is (answer.Sections o) = ⊥
+of_picture Is (answer.Run o) = ⊥
+of_picture Is (answer.Picture o) = Is o
+of_picture Is (answer.Netlist o) = ⊥
 
 -- The answer is that of a main call to all words, with what it did to its devices.
 abbrev pub IsAnswerOf : {S K : Type 0} → Call → List (List ℕ) → Answer → Devices S K → S → S → K →
@@ -85,6 +100,8 @@ IsAnswerOf Sections words a d s s' k k' =
     of_sections (λ o. IsCall composer IsPromisedJoined words o d s s' k k') a
 IsAnswerOf Simulator words a d s s' k k' =
     of_run (λ o. IsCall simulator nothing_more words o d s s' k k') a
+IsAnswerOf Pictures words a d s s' k k' =
+    of_picture (λ o. IsCall draw_program nothing_more words o d s s' k k') a
 IsAnswerOf Importer words a d s s' k k' =
     of_netlist (λ o. IsCall importer nothing_more words o d s s' k k') a
 
@@ -94,6 +111,7 @@ abbrev pub status_of : Answer → ℕ
 status_of (answer.Drawing o) = outcome_status o
 status_of (answer.Sections o) = sections_status o
 status_of (answer.Run o) = trace_status o
+status_of (answer.Picture o) = draw_status o
 status_of (answer.Netlist o) = import_status o
 
 -- A program that was called with these words ends with this status: that of the answer to them,

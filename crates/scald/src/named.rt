@@ -7,6 +7,7 @@ ghost use Rattle.scald_tool.specs.Promise.{has_report};
 ghost use Rattle.section_compose.specs.Promise.{NeverBreaksJoined};
 ghost use Rattle.timing_analysis.specs.Promise.{FaultlessNeverBreaks, NeverBreaks};
 
+use draw_report::{DrawOutcome, draw_main, draw_status};
 use drawing_notes::notes_main;
 use fault_chain::chain_main;
 use margin_report::margin_main;
@@ -35,16 +36,19 @@ pub enum Call {
     Sections,
     /// That of the simulator.
     Simulator,
+    /// That of pictures.
+    Pictures,
     /// That of the import of netlists.
     Importer,
 }
 
-/// What a main call answers: to one drawing, to several, of a run, or to a netlist.
+/// What a main call answers: to one drawing, to several, of a run, by a picture, or to a netlist.
 #[derive(Clone, Copy)]
 pub enum Answer {
     Drawing(Outcome),
     Sections(SectionsOutcome),
     Run(TraceOutcome),
+    Picture(DrawOutcome),
     Netlist(ImportOutcome),
 }
 
@@ -57,6 +61,7 @@ impl Answer {
             Answer::Drawing(outcome) => status(outcome),
             Answer::Sections(outcome) => sections_status(outcome),
             Answer::Run(outcome) => trace_status(outcome),
+            Answer::Picture(outcome) => draw_status(outcome),
             Answer::Netlist(outcome) => import_status(outcome),
         }
     }
@@ -88,6 +93,8 @@ fn call_of(words: &Words) -> Call
         Call::Simulator
     } else if first.as_slice() == b"judge".as_slice() {
         Call::Simulator
+    } else if first.as_slice() == b"draw".as_slice() {
+        Call::Pictures
     } else if first.as_slice() == b"import".as_slice() {
         Call::Importer
     } else {
@@ -131,6 +138,7 @@ pub fn answer_to<S: Source, K: Sink>(
         Call::Slacks => Answer::Drawing(slack_main(alloc, words, source, sink)),
         Call::Sections => Answer::Sections(sections_main(alloc, words, source, sink)),
         Call::Simulator => Answer::Run(trace_main(alloc, words, source, sink)),
+        Call::Pictures => Answer::Picture(draw_main(alloc, words, source, sink)),
         Call::Importer => Answer::Netlist(import_main(alloc, words, source, sink)),
     }
 }

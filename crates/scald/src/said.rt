@@ -3,11 +3,12 @@
 //! many notes there are. The status says what matters, so nothing is promised of these lines.
 
 use crate::named::Answer;
-use crate::traced::say_trace;
+use crate::traced::{explain_cases, say_trace};
 use diagnostics::{
     Lines, explain_notes, explain_refusal, explain_section, explain_undriven, explain_words, part,
     sets_limit,
 };
+use draw_report::DrawOutcome;
 use netlist_import::ImportOutcome;
 use scald_base::{Outcome, Refusal, Words};
 use scald_tool::Omissions;
@@ -28,6 +29,7 @@ pub const FORMS: &str = "usage:
     scald run T SEED [case=K] <DRAWING                 a run of T ticks that a seed draws, 1 to 4096, as a trace
     scald vcd T SEED [case=K] [tick=1ns] <DRAWING      the same run as a value change dump, for a wave viewer
     scald judge F <TRACE-AND-DRAWING                   whether the trace is a run, and what breaks in it from tick F on
+    scald draw case=K [rounds=N] <DRAWING              the waves of a case as a picture; K is 0 if no case is listed
     scald import [cells] <NETLIST                      macros of a netlist that yosys wrote as JSON, or of its kinds of cells, to fill in
     scald bench N                                      what is found in a made drawing of N sections, 1 to 200";
 
@@ -57,6 +59,9 @@ const UNSETTLED_SECTION: &str =
 
 /// What is said if more bytes came than a text may have.
 const TOO_LONG: &str = "scald: the drawing has more than 4194304 bytes";
+
+/// What is said if there is too much to draw.
+const TOO_MUCH: &str = "scald: there are more than 8192 rows or 262144 runs to draw";
 
 /// What is said if there are too few or too many sections.
 const BAD_COUNT: &str = "scald: there should be 2 to 64 sections, with a line ===== between them";
@@ -199,6 +204,20 @@ fn say_sections(
     }
 }
 
+/// Says why there is no picture, if there is none.
+fn say_picture(
+    rt: &(impl Eprint + AllocGlobal),
+    words: &Words,
+    text: Option<&[u8]>,
+    outcome: &DrawOutcome,
+) {
+    match outcome {
+        DrawOutcome::Drawing(outcome) => say_outcome(rt, words, text, outcome),
+        DrawOutcome::NoCase(count) => say_lines(rt, &explain_cases(rt.alloc(), *count)),
+        DrawOutcome::TooMuch => say(rt, TOO_MUCH),
+    }
+}
+
 /// Says why there is no answer, if there is none: `text` is what was read, if that was kept.
 pub fn say_answer(
     rt: &(impl Eprint + AllocGlobal),
@@ -210,6 +229,7 @@ pub fn say_answer(
         Answer::Drawing(outcome) => say_outcome(rt, words, text, outcome),
         Answer::Sections(outcome) => say_sections(rt, words, text, outcome),
         Answer::Run(outcome) => say_trace(rt, words, text, outcome),
+        Answer::Picture(outcome) => say_picture(rt, words, text, outcome),
         Answer::Netlist(outcome) => say_netlist(rt, words, outcome),
     }
 }

@@ -43,7 +43,7 @@ fn explain_line(alloc: Global, number: u32) -> Lines {
 }
 
 /// How many cases there are.
-fn explain_cases(alloc: Global, count: u32) -> Lines {
+pub fn explain_cases(alloc: Global, count: u32) -> Lines {
     let mut out = Lines::new(alloc);
     out.line(&[
         Part::Text(b"scald: the drawing has no such case: it has "),

@@ -1,0 +1,4 @@
+pub mod Words
+pub mod Outcome
+pub mod Case
+pub mod Answer

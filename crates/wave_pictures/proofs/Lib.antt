@@ -1,0 +1,14 @@
+pub mod Ranges
+pub mod Texts
+pub mod Writing
+pub mod Paths
+pub mod Strips
+pub mod Reading
+pub mod Whole
+pub mod Runs
+pub mod Places
+pub mod Clocks
+pub mod Cutting
+pub mod Showing
+pub mod Shading
+mod Examples

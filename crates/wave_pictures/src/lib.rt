@@ -1,0 +1,53 @@
+//! Pictures of waves: rows of waves over a grid of ticks, with marks on them, as SVG.
+//!
+//! The layer above calls [`case_rows`] and [`case_picture`] for the waves of a case over two
+//! periods, and [`picture_of`] for rows of its own. Bits of one name with equal waves are one row,
+//! clocks first (`specs/Row`). A row shows the runs of its wave, shaded where its skew lets it
+//! step, and the latest changes (`specs/Wave`, `specs/Shown`), with its marks (`specs/Mark`), over
+//! a grid (`specs/Grid`). `specs/Picture` says which bytes these are: the writing of a tree of
+//! elements (`specs/Element`), which a reader of XML reads back whatever the names are
+//! (`specs/Xml`).
+#![tactic(auto)]
+
+// text
+mod paper;
+mod style;
+
+// rows
+mod clock;
+mod label;
+mod name;
+mod row;
+
+// what is drawn
+mod grid;
+mod run;
+mod shape;
+mod view;
+mod wave;
+
+// what is told beside
+mod caption;
+mod mark;
+mod over;
+
+// the whole
+mod case;
+mod picture;
+mod sketch;
+mod strip;
+
+// what holds of the definitions
+mod laws;
+
+pub use case::{CaseHead, case_picture};
+pub use laws::{
+    pictures_are_documents, rows_have_one_wave, rows_show_waves, steps_are_shaded,
+    trees_are_read_back,
+};
+pub use mark::{Mark, Side, Slots, Span, Spot, marks_on};
+pub use paper::{Paper, Piece};
+pub use picture::picture_of;
+pub use row::{Row, case_rows};
+pub use sketch::Sketch;
+pub use view::View;
