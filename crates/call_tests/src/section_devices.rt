@@ -2,7 +2,7 @@
 
 use crate::devices::{calls_of, one_word};
 use crate::rows::{expect, expect_eq};
-use scald_base::{Bytes, MemorySink, MemorySource, Place, Refusal, RefusalKind};
+use scald_base::{Bytes, CallEnd, MemorySink, MemorySource, Place, Refusal, RefusalKind};
 use section_compose::{SectionsOutcome, sections_main, sections_status};
 use std::process::Abort;
 
@@ -31,7 +31,8 @@ fn ends(
 
 #[test]
 fn section_devices(rt: HostRuntime) {
-    let (read, write) = (SectionsOutcome::ReadFault, SectionsOutcome::WriteFault);
+    let read = SectionsOutcome::Ended(CallEnd::ReadFault);
+    let write = SectionsOutcome::Ended(CallEnd::WriteFault);
     ends(
         &rt,
         "no failure",
@@ -62,11 +63,11 @@ fn statuses(rt: HostRuntime) {
             net: 0,
             round: 9,
         },
-        SectionsOutcome::BadWords(0),
-        SectionsOutcome::TooLong,
-        SectionsOutcome::ReadFault,
-        SectionsOutcome::WriteFault,
-        SectionsOutcome::NoMemory,
+        SectionsOutcome::Ended(CallEnd::BadWords(0)),
+        SectionsOutcome::Ended(CallEnd::TooLong),
+        SectionsOutcome::Ended(CallEnd::ReadFault),
+        SectionsOutcome::Ended(CallEnd::WriteFault),
+        SectionsOutcome::Ended(CallEnd::NoMemory),
         SectionsOutcome::BadCount(1),
         SectionsOutcome::BadSection {
             section: 2,

@@ -2,12 +2,13 @@
 use Rattle.std.proofs.Common.{◌≡◌, ℕ, List, [], ◌∷◌, ◌++◌, map, refl}
 use Rattle.std.specs.Prelude.{codes, Result, Ok, Err}
 use Rattle.std.specs.Fmt.{digits}
+use Rattle.scald_base.specs.declared.call_end.CallEnd.TheVariants.{BadWords, TooLong, ReadFault, WriteFault, NoMemory}
 use Rattle.netlist_import.specs.declared.fault.FaultKind.{FaultKind}
 use Rattle.netlist_import.specs.declared.fault.FaultKind.TheVariants.{Json, NoNetlist, BadDirection, TooWide, UnlikeCells}
 use Rattle.netlist_import.specs.declared.read.NetlistRefusal.{NetlistRefusal}
 use Rattle.netlist_import.specs.declared.forms.Command.{Command}
 use Rattle.netlist_import.specs.declared.forms.Command.TheVariants.{Design, Cells}
-use Rattle.netlist_import.specs.declared.outcome.ImportOutcome.TheVariants.{Done, Refused, BadWords, TooLong, ReadFault, WriteFault, NoMemory}
+use Rattle.netlist_import.specs.declared.outcome.ImportOutcome.TheVariants.{Done, Refused, Ended}
 use Rattle.netlist_import.specs.Answer.{refusal_line}
 use Rattle.netlist_import.specs.Outcome.{status_of}
 use Rattle.netlist_import.specs.Forms.{command_of}
@@ -16,7 +17,8 @@ use Rattle.netlist_import.specs.Forms.{command_of}
 
 module _ (r : NetlistRefusal) (i : ℕ) where
   statuses : map status_of
-      (Done ∷ Refused r ∷ BadWords i ∷ TooLong ∷ ReadFault ∷ WriteFault ∷ NoMemory ∷ [])
+      (Done ∷ Refused r ∷ Ended (BadWords i) ∷ Ended TooLong ∷ Ended ReadFault ∷ Ended WriteFault
+      ∷ Ended NoMemory ∷ [])
       ≡ 0 ∷ 2 ∷ 4 ∷ 5 ∷ 6 ∷ 7 ∷ 8 ∷ []
   statuses = refl
 

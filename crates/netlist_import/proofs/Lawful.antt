@@ -1,20 +1,11 @@
 -- No reply of the import is an end of a call, and a text has one.
-use Rattle.std.proofs.Common.{◌≡◌, ℕ, List, refl, sym, ◌∙◌, Some, None, Ok, Err}
-use Rattle.scald_base.specs.declared.call_end.CallEnd.{CallEnd}
-use Rattle.scald_base.specs.declared.call_end.CallEnd.TheVariants.{BadWords, TooLong, ReadFault, WriteFault, NoMemory}
+use Rattle.std.proofs.Common.{◌≡◌, ℕ, List, refl, sym, ◌∙◌, None, Ok, Err}
 use Rattle.netlist_import.specs.Read.{Reading, reading}
 use Rattle.program_call.specs.Program.{IsLawful}
 use Rattle.netlist_import.specs.declared.forms.Command.{Command}
 use Rattle.netlist_import.specs.declared.outcome.ImportOutcome.{ImportOutcome}
 use Rattle.netlist_import.specs.Answer.{IsAnswer, importer}
-use Rattle.netlist_import.specs.Outcome.{end_of, ended}
-
-end_of_ended : (end : CallEnd) → end_of (ended end) ≡ Some end
-end_of_ended (BadWords i) = refl
-end_of_ended TooLong = refl
-end_of_ended ReadFault = refl
-end_of_ended WriteFault = refl
-end_of_ended NoMemory = refl
+use Rattle.netlist_import.specs.Outcome.{end_of}
 
 speaks : (command : Command) (r : Reading) (o : ImportOutcome) (bytes : List ℕ) →
     IsAnswer command r o bytes → end_of o ≡ None
@@ -30,7 +21,7 @@ one_answer command (Err refusal) o o' bytes bytes' is is' =
 
 pub importer_is_lawful : IsLawful importer
 importer_is_lawful = record {
-  ends = end_of_ended;
+  ends = λ end. refl;
   replies = λ command text. speaks command (reading text);
   one = λ command text. one_answer command (reading text);
   same = λ o bytes. (refl, refl);

@@ -9,8 +9,8 @@ use Rattle.program_call.specs.Program.{Meaning}
 use Rattle.netlist_import.specs.declared.forms.Command.{Command}
 use Rattle.netlist_import.specs.declared.forms.Command.TheVariants.{Design, Cells}
 use Rattle.netlist_import.specs.declared.outcome.ImportOutcome.{ImportOutcome}
-use Rattle.netlist_import.specs.declared.outcome.ImportOutcome.TheVariants.{Done, Refused}
-use Rattle.netlist_import.specs.Outcome.{end_of, ended}
+use Rattle.netlist_import.specs.declared.outcome.ImportOutcome.TheVariants.{Done, Refused, Ended}
+use Rattle.netlist_import.specs.Outcome.{end_of}
 use Rattle.netlist_import.specs.Forms.{command_of}
 
 -- the most bytes of a text
@@ -48,6 +48,6 @@ importer = record {
   most_bytes = most_for;
   Replied = Imported;
   AreOne = λ o bytes p others. (o ≡ p) × (bytes ≡ others);
-  ended = ended;
+  ended = Ended;
   end_of = end_of;
 }

@@ -44,7 +44,7 @@ impl Program for Importer {
     }
 
     fn ended(end: CallEnd) -> ImportOutcome {
-        ImportOutcome::ended(end)
+        ImportOutcome::Ended(end)
     }
 
     fn laws() {}

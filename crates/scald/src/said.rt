@@ -10,13 +10,13 @@ use diagnostics::{
 };
 use draw_report::DrawOutcome;
 use netlist_import::ImportOutcome;
-use scald_base::{Outcome, Refusal, Words};
+use scald_base::{CallEnd, Outcome, Refusal, Words};
 use scald_tool::Omissions;
 use section_compose::{SectionsOutcome, explain_broken, list_crossings, piece_of_section};
 use std::io::Eprint;
 
 /// The forms of words that the program knows.
-pub const FORMS: &str = "usage:
+const FORMS: &str = "usage:
     scald verify [waves|faults] [rounds=N] <DRAWING    whether the drawing keeps its constraints, with its waves and faults
     scald notes <DRAWING                               likely omissions
     scald format <DRAWING                              the drawing in its canonical form
@@ -37,10 +37,10 @@ pub const FORMS: &str = "usage:
 pub const NO_MEMORY: &str = "scald: there is not enough memory";
 
 /// What is said if reading failed.
-pub const UNREAD: &str = "scald: standard input could not be read";
+const UNREAD: &str = "scald: standard input could not be read";
 
 /// What is said if writing failed.
-pub const UNWRITTEN: &str = "scald: standard output could not be written";
+const UNWRITTEN: &str = "scald: standard output could not be written";
 
 /// What is said if the waves do not settle, and the words set no limit.
 const UNSETTLED: &str =
@@ -57,11 +57,14 @@ const UNSETTLED_SECTION: &str =
     "scald: the net that is named still changes after the last round: a loop leads to it
     verify of that section alone takes rounds=N, which allows more rounds";
 
-/// What is said if more bytes came than a text may have.
+/// What is said if more bytes came than a drawing or sections may have.
 const TOO_LONG: &str = "scald: the drawing has more than 4194304 bytes";
 
 /// What is said if there is too much to draw.
 const TOO_MUCH: &str = "scald: there are more than 8192 rows or 262144 runs to draw";
+
+/// What is said if more bytes came than a netlist may have.
+const TOO_LONG_NETLIST: &str = "scald: the netlist has more than 67108864 bytes";
 
 /// What is said if there are too few or too many sections.
 const BAD_COUNT: &str = "scald: there should be 2 to 64 sections, with a line ===== between them";
@@ -91,56 +94,21 @@ pub fn say_omissions(rt: &(impl Eprint + AllocGlobal), omissions: &Omissions) {
     say_lines(rt, &explain_notes(rt.alloc(), omissions.notes));
 }
 
-/// Why an outcome is no answer to the drawing, if there is something to say of all texts.
-fn why(outcome: &Outcome, is_limited: bool) -> Option<&'static str> {
-    match outcome {
-        Outcome::BadWords(_) => Some(FORMS),
-        Outcome::TooLong => Some(TOO_LONG),
-        Outcome::ReadFault => Some(UNREAD),
-        Outcome::WriteFault => Some(UNWRITTEN),
-        Outcome::NoMemory => Some(NO_MEMORY),
-        Outcome::Unsettled { .. } if is_limited => Some(UNSETTLED_WITHIN),
-        Outcome::Unsettled { .. } => Some(UNSETTLED),
-        Outcome::Clean | Outcome::Faulty(_) | Outcome::Done | Outcome::Refused(_) => None,
-    }
+/// Says what is wrong with the words, and which forms there are. `number` is that of the first with
+/// which no form continues, from 0, or the count of words if one is missing.
+fn say_words(rt: &(impl Eprint + AllocGlobal), words: &Words, number: u32) {
+    say_lines(rt, &explain_words(rt.alloc(), words, number));
+    say(rt, FORMS);
 }
 
-/// The same of an answer to sections.
-fn why_of_sections(outcome: &SectionsOutcome) -> Option<&'static str> {
-    match outcome {
-        SectionsOutcome::BadWords(_) => Some(FORMS),
-        SectionsOutcome::TooLong => Some(TOO_LONG),
-        SectionsOutcome::ReadFault => Some(UNREAD),
-        SectionsOutcome::WriteFault => Some(UNWRITTEN),
-        SectionsOutcome::NoMemory => Some(NO_MEMORY),
-        SectionsOutcome::BadCount(_) => Some(BAD_COUNT),
-        SectionsOutcome::Unsettled { .. } => Some(UNSETTLED_SECTION),
-        SectionsOutcome::Clean
-        | SectionsOutcome::Faulty(_)
-        | SectionsOutcome::Refused { .. }
-        | SectionsOutcome::BadSection { .. } => None,
-    }
-}
-
-/// The same of an answer to a netlist.
-fn why_of_netlist(outcome: &ImportOutcome) -> Option<&'static str> {
-    match outcome {
-        ImportOutcome::BadWords(_) => Some(FORMS),
-        ImportOutcome::TooLong => Some("scald: the netlist has more than 67108864 bytes"),
-        ImportOutcome::ReadFault => Some(UNREAD),
-        ImportOutcome::WriteFault => Some(UNWRITTEN),
-        ImportOutcome::NoMemory => Some(NO_MEMORY),
-        ImportOutcome::Done | ImportOutcome::Refused(_) => None,
-    }
-}
-
-/// Says why there are no macros, if there are none.
-fn say_netlist(rt: &(impl Eprint + AllocGlobal), words: &Words, outcome: &ImportOutcome) {
-    if let ImportOutcome::BadWords(number) = outcome {
-        say_lines(rt, &explain_words(rt.alloc(), words, *number));
-    }
-    if let Some(why) = why_of_netlist(outcome) {
-        say(rt, why);
+/// Says why a call ended without its whole answer: `too_long` if more bytes came than it reads.
+pub fn say_end(rt: &(impl Eprint + AllocGlobal), words: &Words, end: CallEnd, too_long: &str) {
+    match end {
+        CallEnd::BadWords(number) => say_words(rt, words, number),
+        CallEnd::TooLong => say(rt, too_long),
+        CallEnd::ReadFault => say(rt, UNREAD),
+        CallEnd::WriteFault => say(rt, UNWRITTEN),
+        CallEnd::NoMemory => say(rt, NO_MEMORY),
     }
 }
 
@@ -152,12 +120,24 @@ fn say_outcome(
     outcome: &Outcome,
 ) {
     match outcome {
-        Outcome::BadWords(number) => say_lines(rt, &explain_words(rt.alloc(), words, *number)),
+        Outcome::BadWords(number) => say_words(rt, words, *number),
+        Outcome::TooLong => say(rt, TOO_LONG),
+        Outcome::ReadFault => say(rt, UNREAD),
+        Outcome::WriteFault => say(rt, UNWRITTEN),
+        Outcome::NoMemory => say(rt, NO_MEMORY),
         Outcome::Refused(refusal) => say_refusal(rt, text, *refusal),
-        _ => {}
+        Outcome::Unsettled { .. } if sets_limit(words) => say(rt, UNSETTLED_WITHIN),
+        Outcome::Unsettled { .. } => say(rt, UNSETTLED),
+        Outcome::Clean | Outcome::Faulty(_) | Outcome::Done => {}
     }
-    if let Some(why) = why(outcome, sets_limit(words)) {
-        say(rt, why);
+}
+
+/// Says why there are no macros, if the call ended before they were written. If the netlist is
+/// refused, the answer says why.
+fn say_netlist(rt: &(impl Eprint + AllocGlobal), words: &Words, outcome: &ImportOutcome) {
+    match outcome {
+        ImportOutcome::Ended(end) => say_end(rt, words, *end, TOO_LONG_NETLIST),
+        ImportOutcome::Done | ImportOutcome::Refused(_) => {}
     }
 }
 
@@ -173,34 +153,28 @@ fn say_section(rt: &(impl Eprint + AllocGlobal), text: &[u8], section: u32, refu
     }
 }
 
-/// Says what is wrong with sections, if that is known, or else which nets cross between them.
-fn say_together(rt: &(impl Eprint + AllocGlobal), text: &[u8], outcome: &SectionsOutcome) {
-    match outcome {
-        SectionsOutcome::Refused { section, refusal } => say_section(rt, text, *section, *refusal),
-        SectionsOutcome::BadSection { .. } => say_lines(rt, &explain_broken(rt.alloc(), text)),
-        SectionsOutcome::Clean | SectionsOutcome::Faulty(_) => {
-            say_lines(rt, &list_crossings(rt.alloc(), text))
-        }
-        _ => {}
-    }
-}
-
-/// Says why there is no answer to sections, if there is none, and what there is to say of their
-/// text.
+/// Says why there is no answer to sections, if there is none, or else which nets cross between
+/// them; of their text, if it was kept.
 fn say_sections(
     rt: &(impl Eprint + AllocGlobal),
     words: &Words,
     text: Option<&[u8]>,
     outcome: &SectionsOutcome,
 ) {
-    if let SectionsOutcome::BadWords(number) = outcome {
-        say_lines(rt, &explain_words(rt.alloc(), words, *number));
-    }
-    if let Some(why) = why_of_sections(outcome) {
-        say(rt, why);
-    }
-    if let Some(text) = text {
-        say_together(rt, text, outcome);
+    match (outcome, text) {
+        (SectionsOutcome::Ended(end), _) => say_end(rt, words, *end, TOO_LONG),
+        (SectionsOutcome::BadCount(_), _) => say(rt, BAD_COUNT),
+        (SectionsOutcome::Unsettled { .. }, _) => say(rt, UNSETTLED_SECTION),
+        (SectionsOutcome::Refused { section, refusal }, Some(text)) => {
+            say_section(rt, text, *section, *refusal)
+        }
+        (SectionsOutcome::BadSection { .. }, Some(text)) => {
+            say_lines(rt, &explain_broken(rt.alloc(), text))
+        }
+        (SectionsOutcome::Clean | SectionsOutcome::Faulty(_), Some(text)) => {
+            say_lines(rt, &list_crossings(rt.alloc(), text))
+        }
+        (_, None) => {}
     }
 }
 

@@ -1,31 +1,18 @@
 //! What the program says on standard error if the simulator ends without an answer.
 
-use crate::said::{FORMS, NO_MEMORY, UNREAD, UNWRITTEN, say, say_lines, say_refusal};
-use diagnostics::{Lines, Part, explain_words};
+use crate::said::{say, say_end, say_lines, say_refusal};
+use diagnostics::{Lines, Part};
 use scald_base::Words;
 use std::alloc::Global;
 use std::io::Eprint;
 use trace_tool::{TraceOutcome, split_trace};
 
-/// Why an outcome is no answer, or None if there is nothing to say that has no number.
-fn why(outcome: &TraceOutcome) -> Option<&'static str> {
-    match outcome {
-        TraceOutcome::BadWords(_) => Some(FORMS),
-        TraceOutcome::TooLong => Some(
-            "scald: the drawing has more than 4194304 bytes, or with a trace more than 16777216",
-        ),
-        TraceOutcome::ReadFault => Some(UNREAD),
-        TraceOutcome::WriteFault => Some(UNWRITTEN),
-        TraceOutcome::NoMemory => Some(NO_MEMORY),
-        TraceOutcome::TooBig => Some("scald: the run would have more than 4000000 bits"),
-        TraceOutcome::Done
-        | TraceOutcome::Broken
-        | TraceOutcome::Refused(_)
-        | TraceOutcome::NotRun
-        | TraceOutcome::BadTrace(_)
-        | TraceOutcome::NoCase(_) => None,
-    }
-}
+/// What is said if more bytes came than are read.
+const TOO_LONG: &str =
+    "scald: the drawing has more than 4194304 bytes, or with a trace more than 16777216";
+
+/// What is said if the run is too big.
+const TOO_BIG: &str = "scald: the run would have more than 4000000 bits";
 
 /// Which line of a trace is wrong, from 1, or that none ends it if the number is 0.
 fn explain_line(alloc: Global, number: u32) -> Lines {
@@ -75,9 +62,7 @@ pub fn say_trace(
     outcome: &TraceOutcome,
 ) {
     match outcome {
-        TraceOutcome::BadWords(number) => {
-            say_lines(rt, &explain_words(rt.alloc(), words, *number));
-        }
+        TraceOutcome::Ended(end) => say_end(rt, words, *end, TOO_LONG),
         TraceOutcome::Refused(refusal) => {
             if let Some(text) = text {
                 say_refusal(rt, Some(drawing_of(words, text)), *refusal);
@@ -85,9 +70,7 @@ pub fn say_trace(
         }
         TraceOutcome::BadTrace(number) => say_lines(rt, &explain_line(rt.alloc(), *number)),
         TraceOutcome::NoCase(count) => say_lines(rt, &explain_cases(rt.alloc(), *count)),
-        _ => {}
-    }
-    if let Some(why) = why(outcome) {
-        say(rt, why);
+        TraceOutcome::TooBig => say(rt, TOO_BIG),
+        TraceOutcome::Done | TraceOutcome::Broken | TraceOutcome::NotRun => {}
     }
 }

@@ -3,8 +3,6 @@ use Rattle.std.proofs.Common.{◌≡◌, ℕ, zero, suc, ◌+◌, ◌-◌, ◌<�
 use Rattle.std.proofs.Common.{slice_get, refl, sym, ap, subst, ◌∙◌, arith, inl, inr, Some, None}
 use Rattle.std.specs.Prelude.{◌==◌, ◌⊎◌}
 use Rattle.std.specs.List.{AllZip}
-use Rattle.scald_base.specs.declared.call_end.CallEnd.{CallEnd}
-use Rattle.scald_base.specs.declared.call_end.CallEnd.TheVariants as call
 use Rattle.scald_base.specs.declared.refusal.Refusal.{Refusal}
 use Rattle.drawing_tree.specs.Tree.{Drawing}
 use Rattle.drawing_grammar.proofs.TextLaws.{one_drawing, not_both as no_drawing}
@@ -27,7 +25,7 @@ use Rattle.section_compose.specs.Answer.{AreEnough, Concluded, Joined, RefusesFi
 use Rattle.section_compose.specs.Cut.{sections_of}
 use Rattle.section_compose.specs.Evaluated.{AllSettled, IsSettled, NeverSettles, Settling, StopsAt, all_faults, section_round}
 use Rattle.section_compose.specs.Lines.{broken_line, refused_lines, report, unsettled_lines}
-use Rattle.section_compose.specs.Outcome.{end_of, ended, verdict_of}
+use Rattle.section_compose.specs.Outcome.{end_of, verdict_of}
 use Rattle.section_compose.proofs.Fronts.{settled_at}
 use Rattle.section_compose.specs.Drawn as section
 use Rattle.section_compose.specs.Drawn.{DrawsSection, IsSectionRefused, is_listed}
@@ -221,16 +219,9 @@ joined_speaks text _ _ (answer.bad_count wrong) = refl
 joined_speaks text _ _ (answer.refused s r enough first) = refl
 joined_speaks text _ _ (answer.drawn sections o bytes has is) = concluded_speaks sections o bytes is
 
-ends_apart : (end : CallEnd) → end_of (ended end) ≡ Some end
-ends_apart (call.BadWords i) = refl
-ends_apart call.TooLong = refl
-ends_apart call.ReadFault = refl
-ends_apart call.WriteFault = refl
-ends_apart call.NoMemory = refl
-
 pub composer_lawful : IsLawful composer
 composer_lawful = record {
-  ends = ends_apart;
+  ends = λ end. refl;
   replies = λ request. joined_speaks;
   one = λ request. one_joined;
   same = λ o bytes. (refl, refl);

@@ -9,14 +9,14 @@ use Rattle.program_call.specs.Program.{Meaning}
 use Rattle.program_call.specs.Wordless.{by_name, most_bytes}
 use Rattle.program_call.specs.declared.words.Request.{Request}
 use Rattle.section_compose.specs.declared.outcome.SectionsOutcome.{SectionsOutcome}
-use Rattle.section_compose.specs.declared.outcome.SectionsOutcome.TheVariants.{Refused, Unsettled, BadCount, BadSection}
+use Rattle.section_compose.specs.declared.outcome.SectionsOutcome.TheVariants.{Refused, Unsettled, Ended, BadCount, BadSection}
 use Rattle.section_compose.specs.declared.rules.Broken.{Broken}
 use Rattle.section_compose.specs.declared.section.Section.{Section}
 use Rattle.section_compose.specs.Cut.{sections_of}
 use Rattle.section_compose.specs.Drawn.{DrawsSection, IsSectionRefused}
 use Rattle.section_compose.specs.Evaluated.{Settling, AllSettled, StopsAt, all_faults}
 use Rattle.section_compose.specs.Lines.{broken_line, refused_lines, unsettled_lines, report}
-use Rattle.section_compose.specs.Outcome.{ended, end_of, verdict_of}
+use Rattle.section_compose.specs.Outcome.{end_of, verdict_of}
 use Rattle.section_compose.specs.Rule.{number_of}
 use Rattle.section_compose.specs.Rules.{circuits, first_broken}
 
@@ -80,6 +80,6 @@ composer = record {
   most_bytes = λ read. most_bytes;
   Replied = λ request. Joined;
   AreOne = λ o bytes p others. (o ≡ p) × (bytes ≡ others);
-  ended = ended;
+  ended = Ended;
   end_of = end_of;
 }

@@ -1,9 +1,9 @@
 //! How a call on sections ends.
 
 ghost use Rattle.std.specs.Prelude.{◌≡◌};
-ghost use Rattle.section_compose.specs.Outcome.{ended, status_of, verdict_of};
+ghost use Rattle.section_compose.specs.Outcome.{status_of, verdict_of};
 
-use scald_base::{CallEnd, Refusal};
+use scald_base::{CallEnd, Outcome, Refusal, status};
 
 /// What a call on sections answers. Sections count from 1; a net is given by its position in name
 /// order in its section, from 0.
@@ -18,17 +18,8 @@ pub enum SectionsOutcome {
     /// The rounds of a section do not settle in the limit, which is `round`. The net is the first
     /// that still changes: the lines that name it are written.
     Unsettled { section: u32, net: u32, round: u32 },
-    /// The words are none of the forms. The number is the index of the first wrong one, from 0.
-    /// Nothing is read or written.
-    BadWords(u32),
-    /// More bytes came than a text may have. Nothing is written.
-    TooLong,
-    /// The source failed. Nothing is written.
-    ReadFault,
-    /// The sink failed. A front of the answer's bytes was taken, as far as the sink tells.
-    WriteFault,
-    /// Memory ran out. Nothing is written.
-    NoMemory,
+    /// The call ended without its whole answer, for this reason.
+    Ended(CallEnd),
     /// There are so many sections, which is not 2 to 64. Nothing is written.
     BadCount(u32),
     /// A section breaks a rule of sections that are joined, 24 to 29, and with which net, or 0
@@ -37,19 +28,6 @@ pub enum SectionsOutcome {
 }
 
 impl SectionsOutcome {
-    /// The outcome of a call that has this end.
-    pub(crate) fn ended(end: CallEnd) -> SectionsOutcome
-        ensures { result ≡ ended end }
-    {
-        match end {
-            CallEnd::BadWords(i) => SectionsOutcome::BadWords(i),
-            CallEnd::TooLong => SectionsOutcome::TooLong,
-            CallEnd::ReadFault => SectionsOutcome::ReadFault,
-            CallEnd::WriteFault => SectionsOutcome::WriteFault,
-            CallEnd::NoMemory => SectionsOutcome::NoMemory,
-        }
-    }
-
     /// The outcome of sections with so many faults.
     pub(crate) fn verdict(total: u32) -> SectionsOutcome
         ensures { result ≡ verdict_of total }
@@ -74,11 +52,7 @@ pub fn sections_status(outcome: &SectionsOutcome) -> u8
         SectionsOutcome::Faulty(_) => 1,
         SectionsOutcome::Refused { .. } => 2,
         SectionsOutcome::Unsettled { .. } => 3,
-        SectionsOutcome::BadWords(_) => 4,
-        SectionsOutcome::TooLong => 5,
-        SectionsOutcome::ReadFault => 6,
-        SectionsOutcome::WriteFault => 7,
-        SectionsOutcome::NoMemory => 8,
+        SectionsOutcome::Ended(end) => status(&Outcome::ended(*end)),
         SectionsOutcome::BadCount(_) => 9,
         SectionsOutcome::BadSection { .. } => 10,
     }

@@ -46,7 +46,7 @@ impl Program for Composer {
     }
 
     fn ended(end: CallEnd) -> SectionsOutcome {
-        SectionsOutcome::ended(end)
+        SectionsOutcome::Ended(end)
     }
 
     fn laws() {}

@@ -3,7 +3,8 @@ use Rattle.std.proofs.Common.{◌≡◌, ℕ, List, [], ◌∷◌, map, refl, Op
 use Rattle.std.specs.Prelude.{codes, Result, Ok, Err}
 use Rattle.std.specs.Fmt.{digits}
 use Rattle.scald_base.specs.declared.refusal.Refusal.{Refusal}
-use Rattle.trace_tool.specs.declared.outcome.TraceOutcome.TheVariants.{Done, Broken, Refused, NotRun, BadWords, TooLong, ReadFault, WriteFault, NoMemory, BadTrace, NoCase, TooBig}
+use Rattle.scald_base.specs.declared.call_end.CallEnd.TheVariants.{BadWords, TooLong, ReadFault, WriteFault, NoMemory}
+use Rattle.trace_tool.specs.declared.outcome.TraceOutcome.TheVariants.{Done, Broken, Refused, NotRun, Ended, BadTrace, NoCase, TooBig}
 use Rattle.trace_tool.specs.declared.words.Command.{Command}
 use Rattle.trace_tool.specs.declared.words.Command.TheVariants.{Run, Judge}
 use Rattle.trace_tool.specs.declared.asked.Format.TheVariants.{Trace, Dump}
@@ -18,7 +19,8 @@ use Rattle.value_change_dump.specs.declared.tick.TickLength.{TickLength}
 -- ---- outcomes
 
 module _ (r : Refusal) (i : ℕ) where
-  statuses : map status_of (Done ∷ Broken ∷ Refused r ∷ NotRun ∷ BadWords i ∷ TooLong ∷ ReadFault ∷ WriteFault ∷ NoMemory ∷ BadTrace i ∷ NoCase i ∷ TooBig ∷ [])
+  statuses : map status_of
+      (Done ∷ Broken ∷ Refused r ∷ NotRun ∷ Ended (BadWords i) ∷ Ended TooLong ∷ Ended ReadFault ∷ Ended WriteFault ∷ Ended NoMemory ∷ BadTrace i ∷ NoCase i ∷ TooBig ∷ [])
       ≡ 0 ∷ 1 ∷ 2 ∷ 3 ∷ 4 ∷ 5 ∷ 6 ∷ 7 ∷ 8 ∷ 9 ∷ 10 ∷ 11 ∷ []
   statuses = refl
 

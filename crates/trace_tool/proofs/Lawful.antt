@@ -1,7 +1,5 @@
 -- No reply of the simulator is an end of a call, and a text has one.
 use Rattle.std.proofs.Common.{◌≡◌, ℕ, List, refl, Option, Some, None}
-use Rattle.scald_base.specs.declared.call_end.CallEnd.{CallEnd}
-use Rattle.scald_base.specs.declared.call_end.CallEnd.TheVariants.{BadWords, TooLong, ReadFault, WriteFault, NoMemory}
 use Rattle.flat_circuit.specs.declared.case.CaseValue.{CaseValue}
 use Rattle.flat_circuit.specs.Circuit.{Circuit}
 use Rattle.flat_circuit.specs.Run.{Run as AnyRun}
@@ -11,7 +9,7 @@ use Rattle.trace_tool.specs.declared.words.Command.{Command}
 use Rattle.trace_tool.specs.declared.words.Command.TheVariants.{Run, Judge}
 use Rattle.trace_tool.specs.declared.asked.Asked.{Asked}
 use Rattle.trace_tool.specs.declared.outcome.TraceOutcome.{TraceOutcome}
-use Rattle.trace_tool.specs.Outcome.{end_of, ended}
+use Rattle.trace_tool.specs.Outcome.{end_of}
 use Rattle.trace_tool.specs.Ran as ran
 use Rattle.trace_tool.specs.Ran.{Ran, RanIn, RanOn}
 use Rattle.trace_tool.specs.Judged as judged
@@ -19,13 +17,6 @@ use Rattle.trace_tool.specs.Judged.{Judged, JudgedOn, Verdict, outcome_of}
 use Rattle.trace_tool.specs.Simulator.{simulator}
 use Rattle.trace_tool.proofs.OneRun.{one_ran}
 use Rattle.trace_tool.proofs.OneJudged.{one_judged}
-
-end_of_ended : (end : CallEnd) → end_of (ended end) ≡ Some end
-end_of_ended (BadWords i) = refl
-end_of_ended TooLong = refl
-end_of_ended ReadFault = refl
-end_of_ended WriteFault = refl
-end_of_ended NoMemory = refl
 
 -- ---- replies to `run` and `vcd`
 
@@ -75,7 +66,7 @@ one_reply (Judge from) text o o' bytes bytes' r r' = one_judged from text o o' b
 
 pub simulator_is_lawful : IsLawful simulator
 simulator_is_lawful = record {
-  ends = end_of_ended;
+  ends = λ end. refl;
   replies = speaks;
   one = one_reply;
   same = λ o bytes. (refl, refl);

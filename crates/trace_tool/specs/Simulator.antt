@@ -4,8 +4,9 @@ use Rattle.program_call.specs.Program.{Meaning}
 use Rattle.trace_tool.specs.declared.words.Command.{Command}
 use Rattle.trace_tool.specs.declared.words.Command.TheVariants.{Run, Judge}
 use Rattle.trace_tool.specs.declared.outcome.TraceOutcome.{TraceOutcome}
+use Rattle.trace_tool.specs.declared.outcome.TraceOutcome.TheVariants.{Ended}
 use Rattle.trace_tool.specs.Judged.{Judged}
-use Rattle.trace_tool.specs.Outcome.{end_of, ended}
+use Rattle.trace_tool.specs.Outcome.{end_of}
 use Rattle.trace_tool.specs.Ran.{Ran}
 use Rattle.trace_tool.specs.Words.{command_of}
 
@@ -30,6 +31,6 @@ simulator = record {
   most_bytes = most_bytes;
   Replied = Replied;
   AreOne = λ o bytes p others. (o ≡ p) × (bytes ≡ others);
-  ended = ended;
+  ended = Ended;
   end_of = end_of;
 }

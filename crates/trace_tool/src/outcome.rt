@@ -1,9 +1,9 @@
 //! How a call of the simulator ends.
 
 ghost use Rattle.std.specs.Prelude.{◌≡◌};
-ghost use Rattle.trace_tool.specs.Outcome.{ended, status_of};
+ghost use Rattle.trace_tool.specs.Outcome.{status_of};
 
-use scald_base::{CallEnd, Refusal};
+use scald_base::{CallEnd, Outcome, Refusal, status};
 
 /// What a call of the simulator answers.
 #[derive(Clone, Copy, PartialEq, Eq, Debug)]
@@ -16,17 +16,8 @@ pub enum TraceOutcome {
     Refused(Refusal),
     /// The trace is no run: the tick and the net that show it are written.
     NotRun,
-    /// The words are unrecognised. The number is that of the first with which no form continues,
-    /// from 0, or the count of words if one is missing. Nothing is read or written.
-    BadWords(u32),
-    /// More bytes came than are read. Nothing is written.
-    TooLong,
-    /// The source failed. Nothing is written.
-    ReadFault,
-    /// The sink failed. A front of the answer's bytes was taken, as far as the sink tells.
-    WriteFault,
-    /// Memory ran out. Nothing is written.
-    NoMemory,
+    /// The call ended without its whole answer, for this reason.
+    Ended(CallEnd),
     /// The line of the trace with this number, from 1, is not a valid line of a trace of the
     /// circuit; or, if the number is 0, no line ends the trace. Nothing is written.
     BadTrace(u32),
@@ -37,22 +28,8 @@ pub enum TraceOutcome {
     TooBig,
 }
 
-impl TraceOutcome {
-    /// The outcome of a call that has this end.
-    pub fn ended(end: CallEnd) -> TraceOutcome
-        ensures { result ≡ ended end }
-    {
-        match end {
-            CallEnd::BadWords(i) => TraceOutcome::BadWords(i),
-            CallEnd::TooLong => TraceOutcome::TooLong,
-            CallEnd::ReadFault => TraceOutcome::ReadFault,
-            CallEnd::WriteFault => TraceOutcome::WriteFault,
-            CallEnd::NoMemory => TraceOutcome::NoMemory,
-        }
-    }
-}
-
-/// The status that the program ends with: 0 to 11, in the order of the outcomes.
+/// The status that the program ends with: 0 to 11, in the order of the outcomes. The ends of a call
+/// have 4 to 8, in their order.
 pub fn trace_status(outcome: &TraceOutcome) -> u8
     ensures { result ≡ status_of outcome.now }
 {
@@ -61,11 +38,7 @@ pub fn trace_status(outcome: &TraceOutcome) -> u8
         TraceOutcome::Broken => 1,
         TraceOutcome::Refused(_) => 2,
         TraceOutcome::NotRun => 3,
-        TraceOutcome::BadWords(_) => 4,
-        TraceOutcome::TooLong => 5,
-        TraceOutcome::ReadFault => 6,
-        TraceOutcome::WriteFault => 7,
-        TraceOutcome::NoMemory => 8,
+        TraceOutcome::Ended(end) => status(&Outcome::ended(*end)),
         TraceOutcome::BadTrace(_) => 9,
         TraceOutcome::NoCase(_) => 10,
         TraceOutcome::TooBig => 11,

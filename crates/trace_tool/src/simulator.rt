@@ -57,7 +57,7 @@ impl Program for Simulator {
     }
 
     fn ended(end: CallEnd) -> TraceOutcome {
-        TraceOutcome::ended(end)
+        TraceOutcome::Ended(end)
     }
 
     fn laws() {}
