@@ -92,7 +92,7 @@ path_taken e n (m ∷ more) = by n.passage (path_taken e m more)
 
 -- ---- the offset of a stop that is read by folds
 
-offset_folded : (c : Circuit) (s : Stop) → s.reading ≡ Folded →
+pub offset_folded : (c : Circuit) (s : Stop) → s.reading ≡ Folded →
     offset_at c s ≡ offset_of c s.corner (event_at s)
 offset_folded c s folded = by (slice_get c.nets s.net)
   where

@@ -21,7 +21,7 @@ use Rattle.critical_paths.specs.Walk.{same_corner, same_reading, same_stop}
 use Rattle.critical_paths.specs.Known.{Has, are_met}
 use Rattle.critical_paths.proofs.Stops.{stop_is}
 
-same_directions : (a b : Direction) → sameb directions a b ≡ same_direction a b
+pub same_directions : (a b : Direction) → sameb directions a b ≡ same_direction a b
 same_directions Rise Rise = refl
 same_directions Rise Fall = refl
 same_directions Rise Change = refl
@@ -32,7 +32,7 @@ same_directions Change Rise = refl
 same_directions Change Fall = refl
 same_directions Change Change = refl
 
-same_corners : (a b : Corner) → sameb corners a b ≡ same_corner a b
+pub same_corners : (a b : Corner) → sameb corners a b ≡ same_corner a b
 same_corners Late Late = refl
 same_corners Late Early = refl
 same_corners Early Late = refl

@@ -21,6 +21,9 @@ mod Memo
 mod Rounds
 mod Finite
 mod Keys
+mod Places
+mod Gathered
+mod Arrivals
 mod Walks
 mod Settles
 mod Turning

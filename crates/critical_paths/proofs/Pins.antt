@@ -105,7 +105,7 @@ long_shown c ws pins reading p found is =
     ap length is ∙ length-map (map (pin_wave c ws) pins) (λ w. shown reading w p)
     ∙ length-map pins (pin_wave c ws)
 
-few_counts : (kind : Kind) → (pin_counts kind).1 ≤ 4096
+pub few_counts : (kind : Kind) → (pin_counts kind).1 ≤ 4096
 few_counts Buf = omega arith
 few_counts And = omega arith
 few_counts Or = omega arith

@@ -4,7 +4,7 @@ use Rattle.std.specs.Prelude.{unwrap_or}
 use Rattle.std.proofs.lemmas.Bool.{cases_eq, cases_lt, and_parts, and_from}
 use Rattle.critical_paths.specs.Event.{Events, is_first, is_last}
 use Rattle.critical_paths.specs.Region.{Region, first_from, last_up_to, region_from, region_to, IsCyclic, IsRegion}
-use Rattle.critical_paths.proofs.Searches.{IsFirst, IsLast, first_is, first_from_is, first_up_to, last_is, last_up_to_is, last_from}
+use Rattle.critical_paths.proofs.Searches.{IsFirst, IsLast, first_is, first_from_is, last_is, last_up_to_is}
 
 pub not_false : (b : Bool) → b ≡ false → not b ≡ true
 not_false b is = ap not is

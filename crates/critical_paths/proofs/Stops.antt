@@ -12,7 +12,7 @@ use Rattle.critical_paths.specs.Event.{same_direction}
 use Rattle.critical_paths.specs.Walk.{same_corner, same_reading, same_stop}
 use Rattle.critical_paths.specs.Known.{Has, are_met}
 
-direction_is : (a b : Direction) → same_direction a b ≡ true → a ≡ b
+pub direction_is : (a b : Direction) → same_direction a b ≡ true → a ≡ b
 direction_is Rise Rise h = refl
 direction_is Rise Fall h = absurd (cc)
 direction_is Rise Change h = absurd (cc)
@@ -23,7 +23,7 @@ direction_is Change Rise h = absurd (cc)
 direction_is Change Fall h = absurd (cc)
 direction_is Change Change h = refl
 
-corner_is : (a b : Corner) → same_corner a b ≡ true → a ≡ b
+pub corner_is : (a b : Corner) → same_corner a b ≡ true → a ≡ b
 corner_is Late Late h = refl
 corner_is Late Early h = absurd (cc)
 corner_is Early Late h = absurd (cc)
@@ -35,12 +35,12 @@ reading_is Folded Unfolded h = absurd (cc)
 reading_is Unfolded Folded h = absurd (cc)
 reading_is Unfolded Unfolded h = refl
 
-direction_self : (a : Direction) → same_direction a a ≡ true
+pub direction_self : (a : Direction) → same_direction a a ≡ true
 direction_self Rise = refl
 direction_self Fall = refl
 direction_self Change = refl
 
-corner_self : (a : Corner) → same_corner a a ≡ true
+pub corner_self : (a : Corner) → same_corner a a ≡ true
 corner_self Late = refl
 corner_self Early = refl
 

@@ -93,3 +93,7 @@ pub inward_small : (corner : Corner) (d : Bounds) (n : ℕ) → d.min + n ≤ d.
     inward corner d n ≤ 4095
 inward_small Late d n within small = omega (arith, within, small)
 inward_small Early d n within small = omega (arith, within, small)
+
+-- of a tick of a later period
+pub slot_pos : (p t : ℕ) → 0 < p → slot_of p (pos t) ≡ back p t 0
+slot_pos p t some = at_place p (pos t) 0 t some (omega (arith, ints)) ∙ sym (back_zero p t)

@@ -1,13 +1,13 @@
 -- Arrivals: of each edge of an input, the last tick at which a net may change by it, or the first,
 -- whatever else its drivers' pins do. They tell launches apart where the wave of a net does not.
-use Rattle.std.specs.Prelude.{ℕ, zero, suc, ◌+◌, ◌==◌, nat_lt, Bool, not, ◌&&◌, List, [], ◌∷◌, ◌++◌, length, map, filter, slice_get, ℤ, pos, ◌-ℤ◌, int_le, if◌then◌else◌, unwrap_or, Option, Some, None}
-use Rattle.std.specs.List.{list_any, range_with_len}
+use Rattle.std.specs.Prelude.{ℕ, zero, suc, ◌+◌, ◌==◌, nat_lt, Bool, ◌&&◌, List, [], ◌∷◌, ◌++◌, fold as fold_all, length, map, filter, slice_get, ℤ, pos, ◌-ℤ◌, if◌then◌else◌, unwrap_or, Option, Some, None}
+use Rattle.std.specs.List.{range_with_len}
 use Rattle.std.specs.Option.{option_map}
+use Rattle.std.specs.Ordering.{int_eq}
 use Rattle.scald_base.specs.Clock.{back}
 use Rattle.scald_base.specs.Time.{Bounds, period}
 use Rattle.vector_names.specs.declared.bits.Target.{Target}
 use Rattle.vector_names.specs.declared.bits.Target.TheVariants.{Net as OnNet, Constant}
-use Rattle.step_values.specs.Steps.{has}
 use Rattle.step_values.specs.Cell.{values}
 use Rattle.skew_algebra.specs.Wave.{fold}
 use Rattle.element_kinds.specs.declared.kind.Kind.{Kind}
@@ -23,9 +23,9 @@ use Rattle.critical_paths.specs.declared.direction.Corner.{Corner}
 use Rattle.critical_paths.specs.declared.direction.Corner.TheVariants.{Late, Early}
 use Rattle.critical_paths.specs.declared.direction.Direction.{Direction}
 use Rattle.critical_paths.specs.declared.direction.Direction.TheVariants.{Rise, Change}
-use Rattle.critical_paths.specs.Event.{Events, events, moves, turned}
+use Rattle.critical_paths.specs.Event.{Events, events, turned}
 use Rattle.critical_paths.specs.Region.{Region, all_events, regions}
-use Rattle.critical_paths.specs.Path.{bound, delay_to}
+use Rattle.critical_paths.specs.Path.{bound, delay_to, is_event}
 use Rattle.critical_paths.specs.Launch.{offset_of}
 
 -- an edge of a net, and the tick at which what it launches arrives
@@ -97,22 +97,30 @@ later_by ticks a = record { source = a.source; edge = a.edge; tick = a.tick + ti
 
 -- those at which the net may change in the direction
 abbrev pub events_among : Circuit → Waves → Direction → ℕ → List Arrival → List Arrival
-events_among c ws d i arrivals = filter (λ (a : Arrival). moves d (has (fold values (ws i) a.tick)))
-    arrivals
+events_among c ws d i arrivals = filter (λ (a : Arrival). is_event c ws (record {
+  net = i;
+  direction = d;
+  slot = back (period c.header) a.tick 0;
+})) arrivals
 
 -- ---- the last or the first of each edge
 
 abbrev pub same_edge : Arrival → Arrival → Bool
-same_edge a b = (a.source == b.source) && (int_le a.edge b.edge && int_le b.edge a.edge)
+same_edge a b = (a.source == b.source) && int_eq a.edge b.edge
 
 abbrev pub is_further : Corner → Arrival → Arrival → Bool
 is_further Late a b = nat_lt b.tick a.tick
 is_further Early a b = nat_lt a.tick b.tick
 
--- no other of the same edge is further
+-- An edge that is there keeps its place, with the further tick of both; another one goes last.
+abbrev pub with_further : Corner → List Arrival → Arrival → List Arrival
+with_further corner [] new = new ∷ []
+with_further corner (old ∷ more) new =
+    if same_edge old new then (if is_further corner new old then new else old) ∷ more
+    else old ∷ with_further corner more new
+
 abbrev pub furthest : Corner → List Arrival → List Arrival
-furthest corner arrivals =
-    filter (λ a. not (list_any (λ b. same_edge a b && is_further corner b a) arrivals)) arrivals
+furthest corner arrivals = fold_all (with_further corner) [] arrivals
 
 -- ---- all pins
 

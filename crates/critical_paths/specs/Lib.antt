@@ -9,6 +9,7 @@ pub mod Walk
 pub mod Known
 pub mod Launch
 pub mod Arrival
+pub mod Reached
 pub mod Common
 pub mod Views
 pub mod Laws

@@ -22,6 +22,7 @@ use Rattle.fixpoint_engine.specs.Settled.{marked_in}
 use Rattle.fixpoint_engine.specs.Waves.{FitWaves, Waves, marked_pin, pin_wave, pin_waves, target_wave, target_wire, waves_of}
 use Rattle.gate_eval.specs.Hold.{first_some, hazard, value_of_pin}
 use Rattle.critical_paths.specs.declared.direction.Corner.{Corner}
+use Rattle.critical_paths.specs.declared.direction.Corner.TheVariants.{Late as LateCorner, Early as EarlyCorner}
 use Rattle.critical_paths.specs.declared.direction.Direction.{Direction}
 use Rattle.critical_paths.specs.declared.event.Event.{Event as Told}
 use Rattle.critical_paths.specs.declared.event.Reading.{Reading}
@@ -103,6 +104,11 @@ read_of p b = record { passage = b.passage; event = event_of p b.event; reading 
 -- the ticks of a region
 abbrev pub ticks_of_region : Region → Ticks
 ticks_of_region r = record { first = pos r.first; last = pos r.last }
+
+-- the end of a region that counts at a corner
+abbrev pub end_at : Corner → Ticks → ℤ
+end_at LateCorner r = r.last
+end_at EarlyCorner r = r.first
 
 -- so many ticks later
 abbrev pub later_by : ℤ → Ticks → Ticks

@@ -1,21 +1,20 @@
 //! Arrivals: of each edge of a clock the last tick at which a net may change by it, or the first,
 //! over all ways, whatever else the elements on them do.
 
-ghost use Rattle.std.specs.Prelude.{◌≡◌, ◌==◌, ℕ, ◌^◌, ◌<◌, ◌≤◌, length, slice_get, IfOk, IfSome, OnOk, Some, true};
-ghost use Rattle.flat_circuit.specs.declared.instance.Pin.{Pin};
-ghost use Rattle.flat_circuit.specs.Circuit.{wire_at};
+ghost use Rattle.std.specs.Prelude.{◌≡◌, ◌==◌, ℕ, ◌+◌, ◌^◌, ◌<◌, ◌≤◌, ◌++◌, ◌∷◌, [], length, slice_get, is_some, if◌then◌else◌, IfSome, OnOk, Some, true};
+ghost use Rattle.std.specs.Option.{option_map};
 ghost use Rattle.critical_paths.specs.Arrival.{pin_direction};
-ghost use Rattle.critical_paths.specs.Event.{turned};
 ghost use Rattle.critical_paths.specs.Path.{bound};
 ghost use Rattle.fixpoint_engine.specs.Waves.{waves_of};
 ghost use Rattle.critical_paths.specs.Tick.{IsWithin};
 ghost use Rattle.critical_paths.specs.Known.{Grows, IsShort, Knows};
-ghost use Rattle.critical_paths.specs.Views.{Sees, delay_of_step};
+ghost use Rattle.critical_paths.specs.Reached.{KeepsArrivals, StaysKnown, arrived, behind_at, gathered, known_of, range_of, same_place, time_of, times};
+ghost use Rattle.critical_paths.specs.Views.{Sees};
 
 use crate::back::own_delay;
 use crate::direction::{Corner, Direction};
 use crate::event::{Reading, Stop};
-use crate::gather::{AllReached, Reached};
+use crate::gather::{AllReached, Reached, reached_at};
 use crate::path::{Passage, Paths, Word};
 use crate::view::View;
 use fixpoint_engine::wire_behind;
@@ -38,6 +37,13 @@ pub struct Place {
 }
 
 impl Place {
+    /// Whether it is at the clock itself.
+    pub(crate) fn is_at_clock(self) -> bool
+        ensures { result ≡ (self.net == self.clock) }
+    {
+        self.net == self.clock
+    }
+
     /// The event of its net in a slot.
     pub(crate) fn stop(self, slot: u16) -> Stop
         ensures { result ≡ record {
@@ -112,17 +118,7 @@ pub(crate) fn place_behind(
     number: usize,
 ) -> Option<(Place, Passage)>
     ensures short { IfSome result (λ found. IsShort found.1) }
-    ensures is { (pin : Pin) (net : ℕ) → slice_get element.now.pins number ≡ Some pin →
-        pin.target ≡ Target.Net net → IfSome result (λ found.
-        let own = turned element.now.out_inverted place.direction in
-        (found.0 ≡ record {
-          clock = place.clock;
-          net = net;
-          direction = turned pin.inverted (pin_direction element.now.kind number own);
-          corner = place.corner;
-        }) × (found.1 ≡ Passage.Through number (bound place.corner
-        (wire_at circuit.now.nets net)) (bound place.corner (delay_of_step element.now own))
-        Word.Tight)) }
+    ensures is { number < 2 ^ 16 → result ≡ behind_at circuit.now element.now place number }
 {
     let pin = *element.pins.as_slice().get(number)?;
     let Target::Net(net) = pin.target else {
@@ -149,28 +145,43 @@ pub(crate) fn place_behind(
     Some((behind, passage))
 }
 
-/// Whether a place is at the clock itself.
-pub(crate) fn is_at_clock<W: CyclicWave<Item = Value>>(view: &View<W>, place: Place) -> bool
-    ensures net { result ≡ true → place.net < length view.now.circuit.now.nets }
-    ensures clock { place.net < length view.now.circuit.now.nets →
-        result ≡ (place.net == place.clock) }
+/// Whether there is a net of this number.
+pub(crate) fn is_net<W: CyclicWave<Item = Value>>(view: &View<W>, net: u32) -> bool
+    ensures { result ≡ true → net < length view.now.circuit.now.nets }
 {
-    match view.circuit.net(place.net) {
-        Some(_) => place.net == place.clock,
+    match view.circuit.net(net) {
+        Some(_) => true,
         None => false,
     }
 }
 
 impl Paths {
     /// What is known of a place.
-    pub(crate) fn known(&self, place: Place) -> Option<Known> {
+    pub(crate) fn known(&self, place: Place) -> Option<Known>
+        ensures { result ≡ known_of self.now.known.entries place }
+    {
         self.known.get(&place).copied()
+    }
+
+    /// Sets what is known of a place.
+    fn set_known(&mut self, place: Place, known: Known) -> Result<(), NoMemory>
+        ensures nodes { self.new.nodes ≡ self.old.nodes }
+        ensures met { self.new.met.entries ≡ self.old.met.entries }
+        ensures arrivals { self.new.arrivals ≡ self.old.arrivals }
+        ensures known { OnOk result ((q : Place) → known_of self.new.known.entries q
+            ≡ (if same_place place q then Some known else known_of self.old.known.entries q)) }
+    {
+        self.known.insert(place, known)?;
+        Ok(())
     }
 
     /// Appends an arrival and its event.
     fn append(&mut self, reached: Reached) -> Result<(), NoMemory>
         ensures grows { OnOk result (Grows self.old.nodes self.new.nodes) }
         ensures met { OnOk result (self.new.met.entries ≡ self.old.met.entries) }
+        ensures known { self.new.known.entries ≡ self.old.known.entries }
+        ensures arrivals { OnOk result (times self.new.arrivals
+            ≡ times self.old.arrivals ++ time_of reached ∷ []) }
     {
         let number = self.nodes.len();
         self.nodes.push(reached.event)?;
@@ -182,13 +193,19 @@ impl Paths {
     fn append_all(&mut self, place: Place, found: &[Reached]) -> Result<(), NoMemory>
         ensures grows { OnOk result (Grows self.old.nodes self.new.nodes) }
         ensures met { OnOk result (self.new.met.entries ≡ self.old.met.entries) }
+        ensures known { OnOk result ((q : Place) → known_of self.new.known.entries q
+            ≡ (if same_place place q then Some (Known.Done (length self.old.arrivals)
+            (length self.old.arrivals + length found.now))
+            else known_of self.old.known.entries q)) }
+        ensures arrivals { OnOk result (times self.new.arrivals
+            ≡ times self.old.arrivals ++ gathered found.now) }
     {
         let from = self.arrivals.len();
-        for reached in found {
-            self.append(*reached)?;
+        for number in 0..found.len() {
+            self.append(reached_at(found, number))?;
         }
         let past = self.arrivals.len();
-        self.known.insert(place, Known::Done(from, past))?;
+        self.set_known(place, Known::Done(from, past))?;
         Ok(())
     }
 
@@ -201,10 +218,17 @@ impl Paths {
         requires { Sees view.now.circuit.now view.now.waves.now view.now.hazards.now }
         ensures grows { OnOk result (Grows self.old.nodes self.new.nodes) }
         ensures met { OnOk result (self.new.met.entries ≡ self.old.met.entries) }
+        ensures stays { OnOk result (StaysKnown self.old.known.entries self.new.known.entries) }
+        ensures exact { let c = view.now.circuit.now in let ws = waves_of view.now.waves.now in
+            OnOk result (KeepsArrivals c ws self.old.known.entries self.old.arrivals
+            self.new.known.entries self.new.arrivals) }
     {
         let mut found = AllReached::new(view.alloc);
-        self.add_all(view, place, &mut found)?;
-        self.append_all(place, found.as_slice())
+        if !self.add_all(view, place, &mut found)? {
+            return Ok(());
+        }
+        self.append_all(place, found.as_slice())?;
+        Ok(())
     }
 
     /// The first place behind a pin from this one on that is not worked out, with the number of the
@@ -231,11 +255,18 @@ impl Paths {
     fn begin_at(&mut self, frames: &mut Frames, place: Place) -> Result<(), NoMemory>
         ensures grows { OnOk result (Grows self.old.nodes self.new.nodes) }
         ensures met { OnOk result (self.new.met.entries ≡ self.old.met.entries) }
+        ensures known { OnOk result (is_some (known_of self.new.known.entries place) ≡ true) }
+        ensures stays { OnOk result (StaysKnown self.old.known.entries self.new.known.entries) }
+        ensures arrivals { self.new.arrivals ≡ self.old.arrivals }
+        ensures others { OnOk result ((q : Place) (from past : ℕ) →
+            known_of self.new.known.entries q ≡ Some (Known.Done from past) →
+            known_of self.old.known.entries q ≡ Some (Known.Done from past)) }
     {
-        if self.known.insert(place, Known::Begun)?.is_some() {
+        if self.known(place).is_some() {
             frames.clear();
             return Ok(());
         }
+        self.set_known(place, Known::Begun)?;
         frames.push(Frame { place, pin: 0 })?;
         Ok(())
     }
@@ -250,30 +281,44 @@ impl Paths {
         requires { Sees view.now.circuit.now view.now.waves.now view.now.hazards.now }
         ensures grows { OnOk result (Grows self.old.nodes self.new.nodes) }
         ensures met { OnOk result (self.new.met.entries ≡ self.old.met.entries) }
+        ensures stays { OnOk result (StaysKnown self.old.known.entries self.new.known.entries) }
+        ensures exact { let c = view.now.circuit.now in let ws = waves_of view.now.waves.now in
+            OnOk result (KeepsArrivals c ws self.old.known.entries self.old.arrivals
+            self.new.known.entries self.new.arrivals) }
     {
         let Some((behind, pin)) = self.next_behind(view, frame) else {
             return self.finish(view, frame.place);
         };
         frames.push(Frame { pin, ..frame })?;
-        self.begin_at(frames, behind)
+        self.begin_at(frames, behind)?;
+        Ok(())
     }
 
-    /// Works out a place and what it needs, if that is not done.
+    /// Works out the arrivals at a place and at those that it needs, if that is not done.
     #[tactic(auto, using(crate::proofs::Arriving::grows_none))]
-    fn work_out<W: CyclicWave<Item = Value>>(
+    pub fn work_out<W: CyclicWave<Item = Value>>(
         &mut self,
         view: &View<W>,
-        wanted: Place,
+        place: Place,
     ) -> Result<(), NoMemory>
         requires { Sees view.now.circuit.now view.now.waves.now view.now.hazards.now }
+        ensures knows { OnOk result (Knows view.now.circuit.now (waves_of view.now.waves.now)
+            self.old.nodes self.old.met.entries →
+            Knows view.now.circuit.now (waves_of view.now.waves.now)
+            self.new.nodes self.new.met.entries) }
         ensures grows { OnOk result (Grows self.old.nodes self.new.nodes) }
         ensures met { OnOk result (self.new.met.entries ≡ self.old.met.entries) }
+        ensures known { OnOk result (is_some (known_of self.new.known.entries place) ≡ true) }
+        ensures stays { OnOk result (StaysKnown self.old.known.entries self.new.known.entries) }
+        ensures exact { let c = view.now.circuit.now in let ws = waves_of view.now.waves.now in
+            OnOk result (KeepsArrivals c ws self.old.known.entries self.old.arrivals
+            self.new.known.entries self.new.arrivals) }
     {
-        if self.known(wanted).is_some() {
+        if self.known(place).is_some() {
             return Ok(());
         }
         let mut frames = Frames::new(view.alloc);
-        self.begin_at(&mut frames, wanted)?;
+        self.begin_at(&mut frames, place)?;
         'places: for _step in 0..STEPS {
             let Some(frame) = frames.pop() else {
                 return Ok(());
@@ -283,48 +328,28 @@ impl Paths {
         Ok(())
     }
 
-    /// Where the arrivals stand that are known at a place.
-    fn range(&self, place: Place) -> Option<(usize, usize)>
-        ensures { IfSome result (λ range. (range.0 ≤ range.1) ×
-            (range.1 ≤ length self.now.arrivals)) }
+    /// Where the arrivals that are known at a place stand among all; `None` if a way to it comes
+    /// from a loop, or if it was not worked out.
+    pub fn range(&self, place: Place) -> Option<(usize, usize)>
+        ensures is { result ≡ range_of self.now.known.entries (length self.now.arrivals) place }
+        ensures within { IfSome result (λ range. (range.0 ≤ range.1)
+            × (range.1 ≤ length self.now.arrivals)) }
     {
         let Some(Known::Done(from, past)) = self.known(place) else {
             return None;
         };
         // what is done stands among all
-        if past < from {
-            return None;
+        if from <= past && past <= self.arrivals.len() {
+            Some((from, past))
+        } else {
+            None
         }
-        if self.arrivals.len() < past {
-            return None;
-        }
-        Some((from, past))
-    }
-
-    /// Where the arrivals at a place stand among all, or `None` if a way to it comes from a
-    /// loop.
-    pub fn find<W: CyclicWave<Item = Value>>(
-        &mut self,
-        view: &View<W>,
-        place: Place,
-    ) -> Result<Option<(usize, usize)>, NoMemory>
-        requires { Sees view.now.circuit.now view.now.waves.now view.now.hazards.now }
-        ensures knows { OnOk result (Knows view.now.circuit.now (waves_of view.now.waves.now)
-            self.old.nodes self.old.met.entries →
-            Knows view.now.circuit.now (waves_of view.now.waves.now)
-            self.new.nodes self.new.met.entries) }
-        ensures grows { OnOk result (Grows self.old.nodes self.new.nodes) }
-        ensures met { OnOk result (self.new.met.entries ≡ self.old.met.entries) }
-        ensures range { IfOk result (λ found. IfSome found (λ range.
-            (range.0 ≤ range.1) × (range.1 ≤ length self.new.arrivals))) }
-    {
-        self.work_out(view, place)?;
-        Ok(self.range(place))
     }
 
     /// An arrival, by where it stands among all.
     pub fn arrival(&self, number: usize) -> Arrival
         requires { number < length self.now.arrivals }
+        ensures is { option_map arrived (slice_get self.now.arrivals number) ≡ Some result }
         ensures near { IsWithin (2 ^ 46) result.ideal × IsWithin (2 ^ 46) result.tick }
     {
         self.arrivals.as_slice()[number].arrival()

@@ -1,8 +1,8 @@
 //! The ideal edges that changes of clocks come from.
 
-ghost use Rattle.std.specs.Prelude.{◌≡◌, ◌<◌, IfSome};
+ghost use Rattle.std.specs.Prelude.{◌≡◌, ◌<◌, ◌-ℤ◌, pos, IfSome};
 ghost use Rattle.scald_base.specs.Time.{period as period_of};
-ghost use Rattle.critical_paths.specs.Launch.{is_edge, offset_at, offset_if_edge};
+ghost use Rattle.critical_paths.specs.Launch.{is_edge, offset, offset_at, offset_if_edge};
 ghost use Rattle.critical_paths.specs.Tick.{IsWithin, most_tick, slot_of};
 ghost use Rattle.critical_paths.specs.Known.{IsNear};
 
@@ -13,6 +13,26 @@ use assertion_syntax::ideal;
 use scald_base::{AssertSpec, ClockSpec};
 use step_values::{StepSet, Value};
 use wave_core::CyclicWave;
+
+/// How long after its edge a step of a clock comes that may come so many ticks early or late.
+fn shift(corner: Corner, early: u16, late: u16) -> i64
+    ensures is { result ≡ offset corner early late }
+    ensures near { IsNear 65535 result }
+{
+    match corner {
+        Corner::Late => i64::from(late),
+        Corner::Early => 0 - i64::from(early),
+    }
+}
+
+/// The tick of the edge that a step in a slot comes so many ticks after.
+fn edge_tick(slot: u16, after: i64) -> i64
+    requires { IsNear 65535 after }
+    ensures is { result ≡ pos slot -ℤ after }
+    ensures near { IsWithin most_tick result }
+{
+    i64::from(slot) - after
+}
 
 impl<'a, W: CyclicWave<Item = Value>> View<'a, W> {
     /// Whether an ideal clock makes a step in the slot of a tick.
@@ -40,14 +60,9 @@ impl<'a, W: CyclicWave<Item = Value>> View<'a, W> {
             stop.slot clock.now skew }
         ensures near { IfSome result (IsNear 65535) }
     {
-        // no slot is far from the first, since no period is long
-        let _period = self.period();
         let (early, late) = clock.skew.unwrap_or(skew);
-        let after = match corner {
-            Corner::Late => i64::from(late),
-            Corner::Early => 0 - i64::from(early),
-        };
-        if self.is_edge(clock, stop.direction, i64::from(stop.slot) - after) {
+        let after = shift(corner, early, late);
+        if self.is_edge(clock, stop.direction, edge_tick(stop.slot, after)) {
             Some(after)
         } else {
             None

@@ -1,11 +1,20 @@
 //! The arrivals at a place, from those at the places behind the pins of its driver.
 
-ghost use Rattle.std.specs.Prelude.{◌≡◌, ◌<◌, length, IfSome, None};
+ghost use Rattle.std.specs.Prelude.{◌≡◌, ◌==◌, ◌++◌, ◌∷◌, ◌<◌, ◌≤◌, [], ◌^◌, true, fold, length, map, slice_get, slice_set, if◌then◌else◌, IfNone, IfOk, IfSome, List, None, OnOk, Option, Some};
+ghost use Rattle.std.specs.Option.{option_map};
+ghost use Rattle.std.specs.Ordering.{int_eq};
 ghost use Rattle.flat_circuit.specs.Circuit.{driver as driver_of};
+ghost use Rattle.flat_circuit.specs.Instances.{InstanceFits};
+ghost use Rattle.fixpoint_engine.specs.Waves.{waves_of};
+ghost use Rattle.critical_paths.specs.declared.gather.Reached.{Reached};
+ghost use Rattle.critical_paths.specs.declared.near.Near.{Near};
+ghost use Rattle.critical_paths.specs.Arrival.{source_arrivals};
+ghost use Rattle.critical_paths.specs.Tick.{is_further};
 ghost use Rattle.critical_paths.specs.Known.{IsShort};
+ghost use Rattle.critical_paths.specs.Reached.{AreArrivals, AddsThrough, AreThrough, IsFirstOf, IsOfNone, KnowsArrivals, end_time, gathered, later, of_clock, time_of, times_in, with_later, with_one, with_time};
 ghost use Rattle.critical_paths.specs.Views.{Sees};
 
-use crate::arrival::{Known, Place, is_at_clock, place_behind};
+use crate::arrival::{Known, Place, is_net, place_behind};
 use crate::direction::Corner;
 use crate::event::Stop;
 use crate::near::Near;
@@ -30,69 +39,125 @@ pub(crate) struct Reached {
 /// The arrivals at a place, of each edge one.
 pub(crate) type AllReached = List<Reached>;
 
-/// The number of the arrival of an edge among some.
-fn place_of(some: &[Reached], ideal: i64) -> Option<usize>
-    ensures { IfSome result (λ at. at < length some.now) }
+/// The arrival of a number.
+pub(crate) fn reached_at(some: &[Reached], at: usize) -> Reached
+    requires { at < length some.now }
+    ensures { slice_get some.now at ≡ Some result }
+{
+    some[at]
+}
+
+/// Whether two arrivals are of one edge.
+fn are_one(reached: Reached, other: Reached) -> bool
+    ensures { result ≡ int_eq reached.near.ideal other.near.ideal }
+{
+    reached.near.ideal == other.near.ideal
+}
+
+/// The number of the first arrival of an arrival's edge among some.
+fn place_of(some: &[Reached], reached: Reached) -> Option<usize>
+    ensures within { IfSome result (λ at. at < length some.now) }
+    ensures is { IfSome result (λ at. (a : Reached) × IsFirstOf reached.near.ideal some.now at a) }
+    ensures none { IfNone result (IsOfNone reached.near.ideal some.now) }
 {
     for at in 0..some.len() {
-        if some[at].near.ideal == ideal {
+        if are_one(reached_at(some, at), reached) {
             return Some(at);
         }
     }
     None
 }
 
-/// Adds an arrival, or puts it in the place of one of its edge that is not as far.
-fn merge(out: &mut AllReached, corner: Corner, reached: Reached) -> Result<(), NoMemory> {
-    let Some(at) = place_of(out.as_slice(), reached.near.ideal) else {
-        return out.push(reached);
-    };
-    let old = out.as_slice()[at].near.tick;
-    if corner.is_further(reached.near.tick, old) {
+/// Puts an arrival in the place of another one of its edge, if it is further.
+fn set_further(out: &mut AllReached, corner: Corner, at: usize, reached: Reached)
+    requires { at < length out.old }
+    ensures { (own : Reached) → slice_get out.old at ≡ Some own → out.new ≡
+        (if is_further corner reached.near.tick own.near.tick then slice_set out.old at reached
+        else out.old) }
+{
+    let own = reached_at(out.as_slice(), at);
+    if corner.is_further(reached.near.tick, own.near.tick) {
         out.set(at, reached);
+    }
+}
+
+/// Adds an arrival, or puts it in the place of one of its edge that is not as far.
+fn merge(out: &mut AllReached, corner: Corner, reached: Reached) -> Result<(), NoMemory>
+    ensures { OnOk result (gathered out.new
+        ≡ with_time corner (gathered out.old) (time_of reached)) }
+{
+    match place_of(out.as_slice(), reached) {
+        Some(at) => set_further(out, corner, at, reached),
+        None => out.push(reached)?,
     }
     Ok(())
 }
 
-/// Adds the arrival of an edge of the clock at the clock itself.
+/// Adds the arrival of an edge of the clock at the clock itself, at the end of a region; `false`
+/// if that is further than any can be.
 fn add_edge<W: CyclicWave<Item = Value>>(
     view: &View<W>,
     place: Place,
     region: Region,
     out: &mut AllReached,
-) -> Result<(), NoMemory>
+) -> Result<bool, NoMemory>
     requires { driver_of view.now.circuit.now place.net ≡ None }
+    ensures { IfOk result (λ fits. fits ≡ true → gathered out.new
+        ≡ gathered out.old ++ end_time view.now.circuit.now place region ∷ []) }
 {
-    let tick = match place.corner {
-        Corner::Late => region.last,
-        Corner::Early => region.first,
-    };
+    let tick = region.end(place.corner);
     let stop = place.stop(view.slot(tick));
     let event = source(view, stop);
-    match Near::begun(tick, event.age) {
-        Some(near) => out.push(Reached { event, near }),
-        // no edge of a period is far
-        None => Ok(()),
-    }
+    let Some(near) = Near::begun(tick, event.age) else {
+        return Ok(false);
+    };
+    out.push(Reached { event, near })?;
+    Ok(true)
 }
 
-/// Adds the arrivals at the clock itself.
+/// Adds those at the ends of some regions; `false` if one is further than any can be.
+fn add_each<W: CyclicWave<Item = Value>>(
+    view: &View<W>,
+    place: Place,
+    regions: &[Region],
+    out: &mut AllReached,
+) -> Result<bool, NoMemory>
+    requires { driver_of view.now.circuit.now place.net ≡ None }
+    ensures { IfOk result (λ fits. fits ≡ true → gathered out.new
+        ≡ gathered out.old ++ map (end_time view.now.circuit.now place) regions.now) }
+{
+    for region in regions {
+        if !add_edge(view, place, *region, out)? {
+            return Ok(false);
+        }
+    }
+    Ok(true)
+}
+
+/// Adds the arrivals at the clock itself; `false` if one is further than any can be.
 fn add_edges<W: CyclicWave<Item = Value>>(
     view: &View<W>,
     place: Place,
     out: &mut AllReached,
-) -> Result<(), NoMemory>
+) -> Result<bool, NoMemory>
     requires sees { Sees view.now.circuit.now view.now.waves.now view.now.hazards.now }
     requires net { place.net < length view.now.circuit.now.nets }
     requires input { driver_of view.now.circuit.now place.net ≡ None }
+    ensures { IfOk result (λ fits. fits ≡ true → place.net ≡ place.clock → gathered out.new
+        ≡ gathered out.old ++ of_clock place.clock
+        (source_arrivals view.now.circuit.now (waves_of view.now.waves.now) place.corner
+        place.direction place.net)) }
 {
+    // no period is short
+    let _period = view.period();
     let fold = view.waves.at(place.net).folded(view.alloc)?;
     let changes = slots_of(view.alloc, &fold, Test::May(place.direction))?;
-    // what may change in every slot has no region, and so no edge
-    for region in changes.regions.as_slice() {
-        add_edge(view, place, *region, out)?;
+    // what may change in every slot has no edge
+    if changes.are_all {
+        return Ok(true);
     }
-    Ok(())
+    let fits = add_each(view, place, changes.regions.as_slice(), out)?;
+    Ok(fits)
 }
 
 impl Paths {
@@ -115,13 +180,24 @@ impl Paths {
     /// than any can be.
     fn reached(&self, stop: Stop, passage: Passage, behind: Near) -> Option<Reached>
         requires { IsShort passage }
+        ensures { IfSome result (λ found. time_of found
+            ≡ later passage (behind.ideal, behind.tick)) }
     {
         let near = behind.later(passage.ticks())?;
         let event = self.after(stop, passage, behind.node)?;
         Some(Reached { event, near })
     }
 
-    /// Adds that of a number by a passage, if the net may make such a step at its tick.
+    /// The arrival of a number.
+    fn near_at(&self, number: usize) -> Near
+        requires { number < length self.now.arrivals }
+        ensures { slice_get self.now.arrivals number ≡ Some result }
+    {
+        self.arrivals.as_slice()[number]
+    }
+
+    /// Adds that of a number by a passage, if the net may make such a step at its tick; `false` if
+    /// the way is longer than any can be.
     fn add_one<W: CyclicWave<Item = Value>>(
         &self,
         view: &View<W>,
@@ -129,83 +205,140 @@ impl Paths {
         passage: Passage,
         number: usize,
         out: &mut AllReached,
-    ) -> Result<(), NoMemory>
+    ) -> Result<bool, NoMemory>
         requires sees { Sees view.now.circuit.now view.now.waves.now view.now.hazards.now }
         requires net { place.net < length view.now.circuit.now.nets }
         requires passage { IsShort passage }
+        requires number { number < length self.now.arrivals }
+        ensures { let c = view.now.circuit.now in let ws = waves_of view.now.waves.now in
+            IfOk result (λ fits. fits ≡ true → (behind : Near) →
+            slice_get self.now.arrivals number ≡ Some behind → gathered out.new
+            ≡ with_one c ws place (gathered out.old)
+            (later passage (behind.ideal, behind.tick))) }
     {
-        let Some(behind) = self.arrivals.get(number).copied() else {
-            return Ok(());
-        };
+        let behind = self.near_at(number);
         let tick = behind.tick_after(passage.ticks());
         if !view.permits(place.net, place.direction, tick) {
-            return Ok(());
+            return Ok(true);
         }
         let stop = place.stop(view.slot(tick));
-        match self.reached(stop, passage, behind) {
-            Some(reached) => merge(out, place.corner, reached),
-            None => Ok(()),
-        }
+        let Some(reached) = self.reached(stop, passage, behind) else {
+            return Ok(false);
+        };
+        merge(out, place.corner, reached)?;
+        Ok(true)
     }
 
-    /// Adds those that come through a pin from the place behind it.
+    /// Adds those of some numbers by a passage; `false` if a way is longer than any can be.
+    fn add_some<W: CyclicWave<Item = Value>>(
+        &self,
+        view: &View<W>,
+        place: Place,
+        passage: Passage,
+        numbers: (usize, usize),
+        out: &mut AllReached,
+    ) -> Result<bool, NoMemory>
+        requires sees { Sees view.now.circuit.now view.now.waves.now view.now.hazards.now }
+        requires net { place.net < length view.now.circuit.now.nets }
+        requires passage { IsShort passage }
+        requires ordered { numbers.0 ≤ numbers.1 }
+        requires numbers { numbers.1 ≤ length self.now.arrivals }
+        ensures { let c = view.now.circuit.now in let ws = waves_of view.now.waves.now in
+            IfOk result (λ fits. fits ≡ true → gathered out.new
+            ≡ fold (with_later c ws place passage) (gathered out.old)
+            (times_in self.now.arrivals numbers.0 numbers.1)) }
+    {
+        let (from, to) = numbers;
+        for number in from..to {
+            if !self.add_one(view, place, passage, number, out)? {
+                return Ok(false);
+            }
+        }
+        Ok(true)
+    }
+
+    /// Adds those that come through a pin, if there is a place behind it; `false` if that is not
+    /// worked out, or a way is longer than any can be.
     fn add_through<W: CyclicWave<Item = Value>>(
         &self,
         view: &View<W>,
         place: Place,
-        behind: Place,
-        passage: Passage,
+        behind: Option<(Place, Passage)>,
         out: &mut AllReached,
-    ) -> Result<(), NoMemory>
+    ) -> Result<bool, NoMemory>
         requires sees { Sees view.now.circuit.now view.now.waves.now view.now.hazards.now }
         requires net { place.net < length view.now.circuit.now.nets }
-        requires passage { IsShort passage }
+        requires passage { IfSome behind (λ found. IsShort found.1) }
+        ensures { let c = view.now.circuit.now in let ws = waves_of view.now.waves.now in
+            KnowsArrivals c ws self.now.known.entries self.now.arrivals →
+            IfOk result (λ fits. fits ≡ true →
+            AddsThrough c ws place behind (gathered out.old) (gathered out.new)) }
     {
-        let Some(Known::Done(first, past)) = self.known(behind) else {
-            return Ok(());
+        let Some((behind, passage)) = behind else {
+            return Ok(true);
         };
-        for number in first..past {
-            self.add_one(view, place, passage, number, out)?;
-        }
-        Ok(())
+        let Some(numbers) = self.range(behind) else {
+            return Ok(false);
+        };
+        self.add_some(view, place, passage, numbers, out)
     }
 
-    /// Adds those that come through each pin of the driver of a place's net.
+    /// Adds those that come through each pin of the driver of a place's net; `false` if a place
+    /// behind them is not worked out, or a way is longer than any can be.
     fn add_pins<W: CyclicWave<Item = Value>>(
         &self,
         view: &View<W>,
         element: &Instance,
         place: Place,
         out: &mut AllReached,
-    ) -> Result<(), NoMemory>
+    ) -> Result<bool, NoMemory>
         requires sees { Sees view.now.circuit.now view.now.waves.now view.now.hazards.now }
         requires net { place.net < length view.now.circuit.now.nets }
+        requires fits { InstanceFits view.now.circuit.now.header
+            (length view.now.circuit.now.nets) element.now }
+        ensures { let c = view.now.circuit.now in let ws = waves_of view.now.waves.now in
+            KnowsArrivals c ws self.now.known.entries self.now.arrivals →
+            IfOk result (λ fits. fits ≡ true → AreThrough c ws element.now place
+            (length element.now.pins) (gathered out.old) (gathered out.new)) }
     {
         for number in 0..element.pins.len() {
-            if let Some((behind, passage)) = place_behind(view.circuit, element, place, number) {
-                self.add_through(view, place, behind, passage, out)?;
+            let behind = place_behind(view.circuit, element, place, number);
+            if !self.add_through(view, place, behind, out)? {
+                return Ok(false);
             }
         }
-        Ok(())
+        Ok(true)
     }
 
-    /// Adds the arrivals at a place, from those at the places behind its pins.
+    /// Adds the arrivals at a place, from those at the places behind its pins; `false` if one of
+    /// these is not worked out, or a way is longer than any can be.
     pub(crate) fn add_all<W: CyclicWave<Item = Value>>(
         &self,
         view: &View<W>,
         place: Place,
         out: &mut AllReached,
-    ) -> Result<(), NoMemory>
+    ) -> Result<bool, NoMemory>
         requires { Sees view.now.circuit.now view.now.waves.now view.now.hazards.now }
+        ensures { let c = view.now.circuit.now in let ws = waves_of view.now.waves.now in
+            KnowsArrivals c ws self.now.known.entries self.now.arrivals → gathered out.old ≡ [] →
+            IfOk result (λ fits. fits ≡ true → AreArrivals c ws place (gathered out.new)) }
     {
+        // no period is short
+        let _period = view.period();
         match view.driver(place.net) {
-            Some((_, element)) => self.add_pins(view, element, place, out),
+            Some((_, element)) => {
+                let fits = self.add_pins(view, element, place, out)?;
+                Ok(fits)
+            }
             None => {
-                if is_at_clock(view, place) {
-                    add_edges(view, place, out)
-                } else {
-                    Ok(())
+                if !is_net(view, place.net) {
+                    return Ok(false);
                 }
+                if !place.is_at_clock() {
+                    return Ok(true);
+                }
+                let fits = add_edges(view, place, out)?;
+                Ok(fits)
             }
         }
     }

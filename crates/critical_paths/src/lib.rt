@@ -10,7 +10,8 @@
 //! `specs/Event` says what the events of a wave are and `specs/Region` their regions, `specs/Cause`
 //! which steps of pins make a step of an output, `specs/Path` which link follows from an event,
 //! `specs/Unfolded` that of an end of a pulse, `specs/Walk` where that leads in the end,
-//! `specs/Launch` from which edge of a clock a path comes, and `specs/Common` what two paths count
+//! `specs/Launch` from which edge of a clock a path comes, `specs/Arrival` when the edges of a clock
+//! come to a net, `specs/Reached` what is known of that, and `specs/Common` what two paths count
 //! twice.
 #![tactic(auto)]
 

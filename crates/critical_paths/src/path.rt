@@ -1,10 +1,10 @@
 //! Paths: each event that was met once, with what leads on from it.
 
-ghost use Rattle.std.specs.Prelude.{◌≡◌, ◌+◌, ◌-◌, ◌*◌, ◌^◌, ◌<◌, ◌≤◌, ◌++◌, ◌∷◌, [], drop, length, slice_get, IfOk, MatchOption, OnOk, None, Some, false};
+ghost use Rattle.std.specs.Prelude.{◌≡◌, ◌+◌, ◌-◌, ◌*◌, ◌^◌, ◌<◌, ◌≤◌, ◌++◌, ◌∷◌, [], drop, length, slice_get, pos, unwrap_or, IfOk, MatchOption, OnOk, None, Some, false};
 ghost use Rattle.std.specs.Option.{option_map};
 ghost use Rattle.scald_base.specs.Time.{period as period_of};
 ghost use Rattle.fixpoint_engine.specs.Waves.{waves_of};
-ghost use Rattle.critical_paths.specs.Launch.{ticks_of};
+ghost use Rattle.critical_paths.specs.Launch.{offset_at, ticks_of};
 ghost use Rattle.critical_paths.specs.Known.{AreShort, Has, IsNear, IsShort, IsShortNode, Tells, are_met, node_before, ticks_along};
 ghost use Rattle.critical_paths.specs.Walk.{origin_of, same_stop};
 
@@ -179,8 +179,9 @@ pub(crate) fn source<W: CyclicWave<Item = Value>>(view: &View<W>, stop: Stop) ->
     requires slot { stop.slot < period_of view.now.circuit.now.header }
     requires input { origin_of view.now.circuit.now (waves_of view.now.waves.now) stop ≡
         Origin.Input }
-    ensures { Tells view.now.circuit.now (waves_of view.now.waves.now) [] (same_stop stop) stop
-        result }
+    ensures tells { Tells view.now.circuit.now (waves_of view.now.waves.now) [] (same_stop stop)
+        stop result }
+    ensures age { result.age ≡ unwrap_or (offset_at view.now.circuit.now stop) (pos 0) }
 {
     match view.offset(stop) {
         Some(after) => Node::last(stop, End::Edge, after),
@@ -209,6 +210,7 @@ impl Paths {
     pub fn new(alloc: Global) -> Paths
         ensures nodes { result.nodes ≡ [] }
         ensures met { result.met.entries ≡ [] }
+        ensures known { result.known.entries ≡ [] }
     {
         Paths {
             nodes: List::new(alloc),
@@ -222,6 +224,7 @@ impl Paths {
     pub fn next_case(&mut self)
         ensures nodes { self.new.nodes ≡ self.old.nodes }
         ensures met { self.new.met.entries ≡ [] }
+        ensures known { self.new.known.entries ≡ [] }
     {
         self.met.clear();
         self.known.clear();

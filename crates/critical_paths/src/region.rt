@@ -4,9 +4,9 @@ ghost use Rattle.std.specs.Prelude.{◌≡◌, ◌+◌, ◌-◌, ◌*◌, ◌^�
 ghost use Rattle.critical_paths.specs.Tick.{IsWithin, most_tick};
 ghost use Rattle.critical_paths.specs.Event.{is_first};
 ghost use Rattle.critical_paths.specs.Region.{all_events, region_from, regions};
-ghost use Rattle.critical_paths.specs.Views.{later_by, passes, passing, ticks_of_region};
+ghost use Rattle.critical_paths.specs.Views.{end_at, later_by, passes, passing, ticks_of_region};
 
-use crate::direction::Direction;
+use crate::direction::{Corner, Direction};
 use scald_base::{List, NoMemory};
 use std::alloc::Global;
 use step_values::Value;
@@ -61,6 +61,16 @@ impl Region {
         Region {
             first: self.first + ticks,
             last: self.last + ticks,
+        }
+    }
+
+    /// The end that counts at a corner.
+    pub fn end(self, corner: Corner) -> i64
+        ensures { result ≡ end_at corner self }
+    {
+        match corner {
+            Corner::Late => self.last,
+            Corner::Early => self.first,
         }
     }
 

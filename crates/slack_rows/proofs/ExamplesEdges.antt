@@ -27,7 +27,7 @@ use Rattle.slack_rows.specs.Way.{Guard, least_after, least_before}
 use Rattle.slack_rows.specs.declared.guard.Guard as guarding
 use Rattle.slack_rows.specs.declared.window.Window.{Window as Opened}
 use Rattle.slack_rows.specs.Views.{window_about}
-use Rattle.slack_rows.specs.Arrived.{edge_for, is_nearer, moved as moved_to, moved_by, moved_into}
+use Rattle.slack_rows.specs.Arrived.{edge_for, furthest_in, is_nearer, moved as moved_to, moved_by, moved_into}
 use Rattle.critical_paths.specs.declared.arrival.Arrival.{Arrival as Arrived}
 use Rattle.critical_paths.specs.declared.direction.Corner.TheVariants.{Late as LateCorner, Early as EarlyCorner}
 use Rattle.critical_paths.specs.declared.region.Region.{Region as Ticked}
@@ -176,3 +176,20 @@ ends_there = refl
 comes_once : may_change_again (read (wave "00C0000000000000").cells) (2, 1) ≡ false
 unfolding earlier back
 comes_once = refl
+
+-- ---- of two arrivals at a net, at 3 and at 9, those that count at a pin
+
+abbrev other : Arrived
+other = record { ideal = pos 1; tick = pos 9; node = 1 }
+
+last_of_both : furthest_in 16 0 (later_region 50 60) LateCorner (pos 60) (known ∷ other ∷ [])
+    ≡ Some (moved_to other (pos 57))
+last_of_both = refl
+
+-- a wire of 2 ticks counts
+first_of_both : furthest_in 16 2 (later_region 50 60) EarlyCorner (pos 40) (known ∷ other ∷ [])
+    ≡ Some (moved_to known (pos 53))
+first_of_both = refl
+
+none_before_the_edge : furthest_in 16 0 (later_region 50 60) LateCorner (pos 40) (known ∷ other ∷ []) ≡ None
+none_before_the_edge = refl

@@ -1,5 +1,5 @@
 -- Paths that go on as more of them are found, and the pins that they go by.
-use Rattle.std.proofs.Common.{◌≡◌, ℕ, ◌<◌, List, [], ◌∷◌, ◌++◌, length, slice_get, refl, sym, ap, subst, ◌∙◌, append-nil, append_assoc, Some}
+use Rattle.std.proofs.Common.{◌≡◌, ℕ, ◌<◌, List, [], ◌∷◌, ◌++◌, length, slice_get, refl, sym, ap, subst, ◌∙◌, append-nil, append_assoc, Option, Some, None}
 use Rattle.std.specs.List.{All}
 use Rattle.std.proofs.lemmas.List.Elements.{All-nil, All-cons, All-get_or, All-head, All-tail}
 use Rattle.std.proofs.lemmas.Option.{get_or_from_slice_get, slice_get_within}
@@ -10,11 +10,15 @@ use Rattle.flat_circuit.specs.declared.instance.Pin.{Pin}
 use Rattle.flat_circuit.specs.Circuit.{Circuit, IsCircuit}
 use Rattle.flat_circuit.specs.Instances.{InstanceFits, PinExists, TargetExists}
 use Rattle.fixpoint_engine.specs.Waves.{Waves}
+use Rattle.critical_paths.specs.declared.arrival.Known.{Known}
+use Rattle.critical_paths.specs.declared.arrival.Place.{Place}
 use Rattle.critical_paths.specs.declared.event.Stop.{Stop}
 use Rattle.critical_paths.specs.declared.path.Node.{Node}
 use Rattle.critical_paths.specs.Event.{other_corner}
 use Rattle.critical_paths.specs.Known.{Grows, Knows}
+use Rattle.critical_paths.specs.Reached.{StaysKnown}
 use Rattle.critical_paths.specs.Views.{IsPin}
+use Rattle.slack_rows.specs.Arrived.{AreWorkedOut}
 use Rattle.critical_paths.specs.declared.direction.Corner.{Corner}
 use Rattle.critical_paths.specs.declared.direction.Corner.TheVariants.{Late, Early}
 use Rattle.slack_rows.specs.declared.held.Held.{Held}
@@ -81,3 +85,13 @@ is_held c pins held all pin clock = record {
   pin = pin_at c pins pin.0 held.pin all pin.1;
   clock = pin_at c pins clock.0 held.clock all clock.1;
 }
+
+-- what is worked out stays so
+pub stays_worked : (old new : List (Place × Known)) (place : Option Place) → StaysKnown old new →
+    AreWorkedOut old place → AreWorkedOut new place
+stays_worked old new None stays worked = worked
+stays_worked old new (Some place) stays worked = stays place worked
+
+pub stays_two : (old new : List (Place × Known)) (late early : Option Place) → StaysKnown old new →
+    AreWorkedOut old late → AreWorkedOut new early → AreWorkedOut new late × AreWorkedOut new early
+stays_two old new late early stays one two = (stays_worked old new late stays one, two)

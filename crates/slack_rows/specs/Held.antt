@@ -1,8 +1,8 @@
 -- What launches say of what the program holds against something: of a pin against the steps of
 -- another one.
-use Rattle.std.specs.Prelude.{◌≡◌, ℕ, zero, suc, ◌*◌, ◌<◌, ◌≤◌, ◌^◌, not, ◌&&◌, ◌||◌, ℤ, pos, ◌+ℤ◌, ◌-ℤ◌, ◌≤ℤ◌, int_lt, Bool, true, false, List, [], ◌∷◌, ◌++◌, filter, length, map, if◌then◌else◌, Option, Some, None}
+use Rattle.std.specs.Prelude.{◌≡◌, ℕ, zero, suc, ◌*◌, ◌<◌, ◌≤◌, ◌^◌, not, ◌&&◌, ◌||◌, ℤ, pos, ◌+ℤ◌, ◌-ℤ◌, ◌≤ℤ◌, int_lt, ◌==◌, is_some, Bool, true, false, List, [], ◌∷◌, ◌++◌, filter, length, map, if◌then◌else◌, Option, Some, None}
 use Rattle.std.specs.List.{All, list_any}
-use Rattle.std.specs.Option.{option_or}
+use Rattle.std.specs.Option.{option_map, option_or}
 use Rattle.scald_base.specs.Clock.{back}
 use Rattle.scald_base.specs.Time.{period}
 use Rattle.flat_circuit.specs.declared.instance.Pin.{Pin}
@@ -38,13 +38,14 @@ use Rattle.slack_rows.specs.Slack.{Launches, Slack, Told, Watch, after_window, i
 use Rattle.slack_rows.specs.Limit.{beside_by_arrivals, in_windows, is_beside, told_never, told_pin}
 use Rattle.slack_rows.specs.declared.parameter.Word.TheVariants.{Gate, Before as GateBefore, After as GateAfter}
 use Rattle.slack_rows.specs.declared.slack.Reason.{Reason}
-use Rattle.slack_rows.specs.declared.slack.Reason.TheVariants.{Level}
+use Rattle.slack_rows.specs.declared.slack.Reason.TheVariants.{Data as ByData, Level, Mark as ByMark, Still as ByAssertion}
+use Rattle.slack_rows.specs.declared.slack.Told.{Told as Found}
 use Rattle.step_values.specs.Steps.{has}
 use Rattle.step_values.specs.declared.value.Value.{Value}
 use Rattle.flat_circuit.specs.declared.instance.Instance.{Instance}
 use Rattle.point_check.specs.Window.{Folds}
 use Rattle.slack_rows.specs.Launched.{are_two, side_by, two_by}
-use Rattle.slack_rows.specs.Views.{Tells, counts_first, counts_last, is_starred, is_two, meets_window, region_in, slack_told, window_about, window_in}
+use Rattle.slack_rows.specs.Views.{Tells, ahead_of, counts_first, counts_last, is_starred, is_two, meets_window, region_in, slack_told, told_none, window_about, window_in}
 
 -- the ideal edge that a step comes from which the pin shows at a tick
 abbrev pub edge_at_pin : Circuit → Waves → Corner → Pin → Direction → ℕ → Option Edge
@@ -386,3 +387,31 @@ step_held held w LateCorner =
     record { pin = held.clock; direction = held.opens; tick = w.first; corner = EarlyCorner }
 step_held held w EarlyCorner =
     record { pin = held.clock; direction = held.shuts; tick = w.last; corner = LateCorner }
+
+-- the edge of a clock that a window is held against at its begin, as the program counts its tick
+abbrev pub edge_held : Circuit → Waves → Held → Ticks → Option (ℕ × ℤ)
+edge_held c ws held w =
+    option_map (told_back (3 * period c.header))
+    (edge_at_pin c ws EarlyCorner held.clock held.opens (ahead_of (period c.header) w.first))
+
+-- ---- what is told without windows
+
+abbrev pub are_none : Slots → Bool
+are_none slots = not slots.are_all && (length slots.regions == 0)
+
+abbrev pub same_both : Option Found → Slacks
+same_both told = record { level = None; before = told; after = told }
+
+-- Where nothing changes, or nothing is to be quiet, no limit can be broken; where all slots are to
+-- be quiet, or all may change, there is no number.
+abbrev pub without_windows : Option Held → Direction → Slots → Slots → Option Slacks
+without_windows held d changes still =
+    if are_none changes || are_none still then Some (same_both None)
+    else if still.are_all
+    then Some (record {
+      level = Some (told_none (if is_some held then ByMark else ByAssertion) (place_in held) d);
+      before = None;
+      after = None;
+    })
+    else if changes.are_all then Some (same_both (Some (told_none ByData (place_in held) d)))
+    else None

@@ -71,6 +71,24 @@ left_on c ws level (Constant b) = None
 abbrev pub left_at : Circuit → Waves → Bool → Pin → Option ℤ
 left_at c ws level pin = left_on c ws (turned pin.inverted level) pin.target
 
+-- when such a pulse begins at its driver's output: as late as it may
+abbrev pub begins_if : Split → Bool → Option Pulse → Option ℤ
+begins_if s level None = None
+begins_if s level (Some pulse) =
+    if int_le (left_of s level pulse.1) (pos 0) then Some (pos (pulse.0 + latest_begin s level))
+    else None
+
+abbrev pub begins_by : Circuit → Waves → Instance → Bool → Option Split → Option ℤ
+begins_by c ws j level None = None
+begins_by c ws j level (Some s) =
+    begins_if s level (narrowest (period c.header) level
+    (read (gate_image j.kind (pin_waves c ws j) (marked_pin j)).cells))
+
+abbrev pub begins_in : Circuit → Waves → Bool → Option Instance → Option ℤ
+begins_in c ws level None = None
+begins_in c ws level (Some j) = begins_by c ws j (turned j.out_inverted level)
+    (two_delays j.kind j.split)
+
 -- ---- pulses that may change more than once
 
 -- In some slot of the pulse it may step either way, and it may go on changing in the next.

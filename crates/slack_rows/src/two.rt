@@ -2,16 +2,17 @@
 //! other.
 
 ghost use Rattle.std.specs.Prelude.{◌≡◌, ◌<◌, ◌≤◌, ◌+◌, ◌*◌, ◌^◌, ◌≤ℤ◌, ◌+ℤ◌, ◌-ℤ◌, int_lt, IfNone, IfOk, IfSome, None, OnOk, Some, true, if◌then◌else◌, ◌==◌, length, pos};
-ghost use Rattle.std.specs.Option.{option_map};
+ghost use Rattle.std.specs.Option.{option_and_then, option_map};
 ghost use Rattle.scald_base.specs.Time.{period};
 ghost use Rattle.fixpoint_engine.specs.Waves.{target_wire, waves_of};
 ghost use Rattle.critical_paths.specs.Path.{bound};
 ghost use Rattle.critical_paths.specs.declared.direction.Corner.TheVariants.{Late, Early};
 ghost use Rattle.critical_paths.specs.Tick.{IsWithin, most_tick};
 ghost use Rattle.critical_paths.specs.Known.{Knows};
+ghost use Rattle.critical_paths.specs.Reached.{StaysKnown, arrivals_in};
 ghost use Rattle.critical_paths.specs.Views.{Sees};
-ghost use Rattle.slack_rows.specs.Arrived.{both_of, counts_launch, further_of, moved_into, tick_of, told_by_arrival};
-ghost use Rattle.slack_rows.specs.Held.{GoesOn, IsBrokenByTwo, IsClose, IsCloseWindow, IsHeld, edge_at_pin, step_held, told_back};
+ghost use Rattle.slack_rows.specs.Arrived.{AreWorkedOut, TwoWorkedOut, both_of, counts_launch, furthest_in as furthest_among, further_of, launch_at, moved_into, place_on, range_on, slacks_by_two, tick_of, told_by_arrival, two_slacks};
+ghost use Rattle.slack_rows.specs.Held.{GoesOn, IsBrokenByTwo, IsClose, IsCloseWindow, IsHeld, edge_at_pin, edge_held, step_held, told_back};
 ghost use Rattle.slack_rows.specs.Views.{ahead_of, spare_at};
 
 use crate::around::Around;
@@ -99,65 +100,110 @@ fn further(corner: Corner, old: Option<Arrival>, new: Option<Arrival>) -> Option
     }
 }
 
-/// Of the arrivals at a pin in a region the last that is launched before an edge, or the first
-/// that is launched by it or after it.
-fn arrival_in<W: CyclicWave<Item = Value>>(
-    view: &View<W>,
-    paths: &mut Paths,
-    held: Held,
-    region: Region,
-    edge: (u32, i64),
-    corner: Corner,
-) -> Result<Option<Arrival>, NoMemory>
-    requires sees { Sees view.now.circuit.now view.now.waves.now view.now.hazards.now }
-    requires knows { Knows view.now.circuit.now (waves_of view.now.waves.now) paths.old.nodes
-        paths.old.met.entries }
-    requires region { IsClose (period view.now.circuit.now.header) region }
-    ensures paths { OnOk result (GoesOn view.now.circuit.now (waves_of view.now.waves.now)
-        paths.old.nodes paths.new.nodes paths.new.met.entries) }
-    ensures near { IfOk result (λ found. IfSome found (λ a. IsWithin most_tick a.tick)) }
-    ensures within { IfOk result (λ found. IfSome found
-        (λ a. (region.first ≤ℤ a.tick) × (a.tick ≤ℤ region.last))) }
+/// The changes of the net at a pin, by the edges of a clock; a constant has none.
+fn place_at(held: Held, clock: u32, corner: Corner) -> Option<Place>
+    ensures { result ≡ place_on clock corner held.pin.target }
 {
-    let Some((from, to)) = find(view, paths, held, edge.0, corner)? else {
-        return Ok(None);
-    };
-    let period = view.period();
-    let mut best: Option<Arrival> = None;
-    for number in from..to {
-        let found = at_pin(view, held, paths.arrival(number), corner);
-        let counted = arrival_at(region, period, found, edge.1, corner);
-        best = further(corner, best, counted);
+    match held.pin.target {
+        Target::Net(net) => Some(Place {
+            clock,
+            net,
+            direction: Direction::Change,
+            corner,
+        }),
+        Target::Constant(_) => None,
     }
-    Ok(best)
 }
 
-/// Where the arrivals of a clock's edges at a pin stand.
-pub fn find<W: CyclicWave<Item = Value>>(
+/// Works out the arrivals of a clock's edges at a pin.
+pub fn work_out<W: CyclicWave<Item = Value>>(
     view: &View<W>,
     paths: &mut Paths,
     held: Held,
     clock: u32,
     corner: Corner,
-) -> Result<Option<(usize, usize)>, NoMemory>
+) -> Result<(), NoMemory>
     requires sees { Sees view.now.circuit.now view.now.waves.now view.now.hazards.now }
     requires knows { Knows view.now.circuit.now (waves_of view.now.waves.now) paths.old.nodes
         paths.old.met.entries }
     ensures paths { OnOk result (GoesOn view.now.circuit.now (waves_of view.now.waves.now)
         paths.old.nodes paths.new.nodes paths.new.met.entries) }
-    ensures range { IfOk result (λ found. IfSome found
-        (λ range. (range.0 ≤ range.1) × (range.1 ≤ length paths.new.arrivals))) }
+    ensures known { OnOk result (AreWorkedOut paths.new.known.entries
+        (place_on clock corner held.pin.target)) }
+    ensures stays { OnOk result (StaysKnown paths.old.known.entries paths.new.known.entries) }
 {
-    let Target::Net(net) = held.pin.target else {
-        return Ok(None);
-    };
-    let place = Place {
-        clock,
-        net,
-        direction: Direction::Change,
-        corner,
-    };
-    paths.find(view, place)
+    match place_at(held, clock, corner) {
+        Some(place) => paths.work_out(view, place),
+        None => Ok(()),
+    }
+}
+
+/// Where the arrivals of a clock's edges at a pin stand, if they are known.
+pub fn range(paths: &Paths, held: Held, clock: u32, corner: Corner) -> Option<(usize, usize)>
+    ensures is { result ≡ range_on paths.now.known.entries (length paths.now.arrivals)
+        (place_on clock corner held.pin.target) }
+    ensures within { IfSome result (λ range. (range.0 ≤ range.1)
+        × (range.1 ≤ length paths.now.arrivals)) }
+{
+    match place_at(held, clock, corner) {
+        Some(place) => paths.range(place),
+        None => None,
+    }
+}
+
+/// Of some arrivals, at a pin in a region, the last that is launched before an edge, or the first
+/// that is launched by it or after it.
+fn furthest_in<W: CyclicWave<Item = Value>>(
+    view: &View<W>,
+    paths: &Paths,
+    held: Held,
+    region: Region,
+    edge: i64,
+    corner: Corner,
+    numbers: (usize, usize),
+) -> Option<Arrival>
+    requires sees { Sees view.now.circuit.now view.now.waves.now view.now.hazards.now }
+    requires region { IsClose (period view.now.circuit.now.header) region }
+    requires ordered { numbers.0 ≤ numbers.1 }
+    requires numbers { numbers.1 ≤ length paths.now.arrivals }
+    ensures is { let c = view.now.circuit.now in result ≡ furthest_among (period c.header)
+        (bound corner (target_wire c.nets held.pin.target)) region corner edge
+        (arrivals_in paths.now.arrivals numbers) }
+    ensures near { IfSome result (λ a. IsWithin most_tick a.tick) }
+    ensures within { IfSome result (λ a. (region.first ≤ℤ a.tick) × (a.tick ≤ℤ region.last)) }
+{
+    let (from, to) = numbers;
+    let period = view.period();
+    let mut best: Option<Arrival> = None;
+    for number in from..to {
+        let found = at_pin(view, held, paths.arrival(number), corner);
+        let counted = arrival_at(region, period, found, edge, corner);
+        best = further(corner, best, counted);
+    }
+    best
+}
+
+/// Of the arrivals at a pin in a region the last that is launched before an edge, or the first
+/// that is launched by it or after it.
+fn arrival_in<W: CyclicWave<Item = Value>>(
+    view: &View<W>,
+    paths: &Paths,
+    held: Held,
+    region: Region,
+    edge: (u32, i64),
+    corner: Corner,
+) -> Option<Arrival>
+    requires sees { Sees view.now.circuit.now view.now.waves.now view.now.hazards.now }
+    requires region { IsClose (period view.now.circuit.now.header) region }
+    ensures is { result ≡ launch_at view.now.circuit.now paths.now.known.entries
+        paths.now.arrivals held region edge corner }
+    ensures near { IfSome result (λ a. IsWithin most_tick a.tick) }
+    ensures within { IfSome result (λ a. (region.first ≤ℤ a.tick) × (a.tick ≤ℤ region.last)) }
+{
+    match range(paths, held, edge.0, corner) {
+        Some(numbers) => furthest_in(view, paths, held, region, edge.1, corner, numbers),
+        None => None,
+    }
 }
 
 /// An arrival behind the wire to a pin.
@@ -225,8 +271,7 @@ fn broken_by(held: Held, window: Window, late: Arrival, early: Arrival) -> Optio
     ensures after { IfSome result (λ found. found.after ≡ Some (told_by_arrival held
         (Slack.Ticks (spare_at Early window early.tick)) window early)) }
     ensures broken { IfSome result IsBrokenByTwo }
-    ensures met { IfNone result ((pos 0 ≤ℤ spare_at Late window late.tick)
-        × (pos 0 ≤ℤ spare_at Early window early.tick)) }
+    ensures is { result ≡ slacks_by_two held window late early }
 {
     let before = spare_at(Corner::Late, window, late.tick);
     let after = spare_at(Corner::Early, window, early.tick);
@@ -238,6 +283,31 @@ fn broken_by(held: Held, window: Window, late: Arrival, early: Arrival) -> Optio
         before: Some(held.told(Slack::Ticks(before), window, late)),
         after: Some(held.told(Slack::Ticks(after), window, early)),
     })
+}
+
+/// The slacks of two launches against an edge, if both arrivals are known and one is broken.
+fn launches<W: CyclicWave<Item = Value>>(
+    view: &View<W>,
+    paths: &Paths,
+    held: Held,
+    window: Window,
+    region: Region,
+    edge: (u32, i64),
+) -> Option<Slacks>
+    requires sees { Sees view.now.circuit.now view.now.waves.now view.now.hazards.now }
+    requires window { IsCloseWindow (period view.now.circuit.now.header) window }
+    requires region { IsClose (period view.now.circuit.now.header) region }
+    ensures is { result ≡ two_slacks view.now.circuit.now paths.now.known.entries
+        paths.now.arrivals held window region (Some edge) }
+    ensures level { IfSome result (λ all. all.level ≡ None) }
+    ensures broken { IfSome result IsBrokenByTwo }
+{
+    let late = arrival_in(view, paths, held, region, edge, Corner::Late);
+    let early = arrival_in(view, paths, held, region, edge, Corner::Early);
+    match (late, early) {
+        (Some(late), Some(early)) => broken_by(held, window, late, early),
+        _ => None,
+    }
 }
 
 /// The slacks of two launches that make one region, if both arrivals are known and one is
@@ -259,16 +329,18 @@ fn by_two<W: CyclicWave<Item = Value>>(
         paths.old.nodes paths.new.nodes paths.new.met.entries) }
     ensures level { IfOk result (λ found. IfSome found (λ all. all.level ≡ None)) }
     ensures broken { IfOk result (λ found. IfSome found IsBrokenByTwo) }
+    ensures known { let c = view.now.circuit.now in OnOk result (TwoWorkedOut
+        paths.new.known.entries held (edge_held c (waves_of view.now.waves.now) held window)) }
+    ensures is { let c = view.now.circuit.now in IfOk result (λ found. found
+        ≡ two_slacks c paths.new.known.entries paths.new.arrivals held window region
+        (edge_held c (waves_of view.now.waves.now) held window)) }
 {
     let Some(edge) = edge_of(view, paths, held, window, Corner::Late)? else {
         return Ok(None);
     };
-    let late = arrival_in(view, paths, held, region, edge, Corner::Late)?;
-    let early = arrival_in(view, paths, held, region, edge, Corner::Early)?;
-    match (late, early) {
-        (Some(late), Some(early)) => Ok(broken_by(held, window, late, early)),
-        _ => Ok(None),
-    }
+    work_out(view, paths, held, edge.0, Corner::Late)?;
+    work_out(view, paths, held, edge.0, Corner::Early)?;
+    Ok(launches(view, paths, held, window, region, edge))
 }
 
 /// What is held against two launches that make the only region that meets a window, and the region.
@@ -305,6 +377,13 @@ pub fn by_two_if<W: CyclicWave<Item = Value>>(
     ensures level { IfOk result (λ two. IfSome two (λ found. found.level ≡ None)) }
     ensures broken { IfOk result (λ two. IfSome two IsBrokenByTwo) }
     ensures only { IfOk result (λ two. met ≡ None → two ≡ None) }
+    ensures is { let c = view.now.circuit.now in IfOk result (λ two. two
+        ≡ option_and_then (λ found. two_slacks c paths.new.known.entries paths.new.arrivals
+        found.0 window found.1
+        (edge_held c (waves_of view.now.waves.now) found.0 window)) met) }
+    ensures known { let c = view.now.circuit.now in IfSome met (λ found. OnOk result (TwoWorkedOut
+        paths.new.known.entries found.0
+        (edge_held c (waves_of view.now.waves.now) found.0 window))) }
 {
     match met {
         None => Ok(None),

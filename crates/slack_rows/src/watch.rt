@@ -1,6 +1,6 @@
 //! Slacks of changes that are not to come in some slots.
 
-ghost use Rattle.std.specs.Prelude.{◌≡◌, IfOk, OnOk, if◌then◌else◌, is_some, length};
+ghost use Rattle.std.specs.Prelude.{◌≡◌, IfOk, IfSome, OnOk, if◌then◌else◌, is_some, length};
 ghost use Rattle.scald_base.specs.Time.{period};
 ghost use Rattle.step_values.specs.Cell.{values};
 ghost use Rattle.skew_algebra.specs.Wave.{folded};
@@ -10,7 +10,7 @@ ghost use Rattle.critical_paths.specs.Event.{Events};
 ghost use Rattle.critical_paths.specs.Region.{IsCyclic};
 ghost use Rattle.critical_paths.specs.Known.{Knows};
 ghost use Rattle.critical_paths.specs.Views.{Sees, passing};
-ghost use Rattle.slack_rows.specs.Held.{AreSlots, GoesOn, IsSlots, MayBeHeld, TellParts, launches_of, place_in, two_of, watch_at};
+ghost use Rattle.slack_rows.specs.Held.{AreSlots, GoesOn, IsSlots, MayBeHeld, TellParts, launches_of, place_in, two_of, watch_at, without_windows};
 ghost use Rattle.slack_rows.specs.Slack.{Nowhere};
 ghost use Rattle.slack_rows.specs.Views.{place_without};
 
@@ -85,6 +85,8 @@ pub fn still_slacks<W: CyclicWave<Item = Value>>(
         IsCyclic p ev → IsCyclic p quiet → AreSlots p ev changes.now → AreSlots p quiet still.now →
         IfOk result (TellParts p (launches_of c ws held) (two_of c ws held) (place_in held)
         direction (watch_at p ev quiet)) }
+    ensures without { IfSome (without_windows held direction changes.now still.now)
+        (λ found. IfOk result (λ told. told ≡ found)) }
 {
     // no period is short
     let _period = view.period();

@@ -1,14 +1,16 @@
 //! Slacks if the data may change in every slot: by its ways from the edges of the clock.
 
-ghost use Rattle.std.specs.Prelude.{◌≡◌, ◌==◌, ◌+◌, ◌<◌, ◌≤◌, ◌^◌, ◌-ℤ◌, ℕ, ℤ, not, true, IfOk, IfSome, None, OnOk, Some, length};
+ghost use Rattle.std.specs.Prelude.{◌≡◌, ◌==◌, ◌+◌, ◌<◌, ◌≤◌, ◌^◌, ◌-ℤ◌, ℕ, ℤ, List, fold, not, true, IfOk, IfSome, None, OnOk, Some, length, slice_get};
 ghost use Rattle.std.specs.List.{All, list_any};
 ghost use Rattle.scald_base.specs.Time.{period as period_of};
 ghost use Rattle.fixpoint_engine.specs.Waves.{target_wire, waves_of};
 ghost use Rattle.critical_paths.specs.Path.{bound};
 ghost use Rattle.critical_paths.specs.Tick.{IsWithin, most_tick};
 ghost use Rattle.critical_paths.specs.Known.{Knows};
+ghost use Rattle.critical_paths.specs.Reached.{arrivals_in};
 ghost use Rattle.critical_paths.specs.Views.{Sees};
-ghost use Rattle.slack_rows.specs.Arrived.{IsGuardOf, MayAdd, behind_wire, is_nearer, moved, told_way, with_way};
+ghost use Rattle.slack_rows.specs.declared.guard.Guard.{Guard};
+ghost use Rattle.slack_rows.specs.Arrived.{GuardsWorkedOut, IsGuardOf, MayAdd, behind_wire, is_nearer, moved, told_side, told_way, with_arrival as with_each, with_guard, with_way};
 ghost use Rattle.slack_rows.specs.Held.{AreOfWays, GoesOn, IsHeld, IsInPeriod};
 ghost use Rattle.slack_rows.specs.Views.{is_starred, slack_by};
 
@@ -17,7 +19,7 @@ use crate::held::{Held, Watch};
 use crate::nearest::Launch;
 use crate::sides::window_of;
 use crate::slack::{Reason, Slack, Slacks, Told, lesser};
-use crate::two::{at_pin, edge_of, find};
+use crate::two::{at_pin, edge_of, range, work_out};
 use crate::window::{Window, spare_at};
 use critical_paths::{Arrival, Corner, Direction, Paths, View};
 use scald_base::NoMemory;
@@ -167,34 +169,6 @@ fn with_arrival<W: CyclicWave<Item = Value>>(
     }
 }
 
-/// With the slacks of all arrivals from the edges of a clock against one edge.
-fn with_edge<W: CyclicWave<Item = Value>>(
-    view: &View<W>,
-    paths: &mut Paths,
-    edges: &[Guard],
-    sought: Sought,
-    so_far: Least,
-) -> Result<Least, NoMemory>
-    requires sees { Sees view.now.circuit.now view.now.waves.now view.now.hazards.now }
-    requires knows { Knows view.now.circuit.now (waves_of view.now.waves.now) paths.old.nodes
-        paths.old.met.entries }
-    requires best { IfSome so_far.best (λ told. is_starred (slack_by told.slack) ≡ true) }
-    ensures paths { OnOk result (GoesOn view.now.circuit.now (waves_of view.now.waves.now)
-        paths.old.nodes paths.new.nodes paths.new.met.entries) }
-    ensures best { IfOk result (λ least. IfSome least.best
-        (λ told. is_starred (slack_by told.slack) ≡ true)) }
-{
-    let Sought { held, edge, corner } = sought;
-    let Some((from, to)) = find(view, paths, held, edge.net, corner)? else {
-        return Ok(Least {
-            reason: Reason::DataLoop,
-            ..so_far
-        });
-    };
-    let best = best_of(view, paths, edges, sought, (from, to), so_far.best);
-    Ok(Least { best, ..so_far })
-}
-
 /// With the slacks of the arrivals of some numbers against an edge.
 fn best_of<W: CyclicWave<Item = Value>>(
     view: &View<W>,
@@ -205,9 +179,13 @@ fn best_of<W: CyclicWave<Item = Value>>(
     so_far: Option<Told>,
 ) -> Option<Told>
     requires sees { Sees view.now.circuit.now view.now.waves.now view.now.hazards.now }
+    requires ordered { numbers.0 ≤ numbers.1 }
     requires numbers { numbers.1 ≤ length paths.now.arrivals }
     requires best { IfSome so_far (λ told. is_starred (slack_by told.slack) ≡ true) }
-    ensures { IfSome result (λ told. is_starred (slack_by told.slack) ≡ true) }
+    ensures is { let c = view.now.circuit.now in result ≡ fold (with_each (period_of c.header)
+        (bound sought.corner (target_wire c.nets sought.held.pin.target)) edges.now sought)
+        so_far (arrivals_in paths.now.arrivals numbers) }
+    ensures starred { IfSome result (λ told. is_starred (slack_by told.slack) ≡ true) }
 {
     let (from, to) = numbers;
     let mut best = so_far;
@@ -216,6 +194,93 @@ fn best_of<W: CyclicWave<Item = Value>>(
         best = with_arrival(view, edges, sought, arrival, best);
     }
     best
+}
+
+/// With the slacks of all arrivals from the edges of a clock against one edge.
+fn with_edge<W: CyclicWave<Item = Value>>(
+    view: &View<W>,
+    paths: &Paths,
+    edges: &[Guard],
+    sought: Sought,
+    so_far: Least,
+) -> Least
+    requires sees { Sees view.now.circuit.now view.now.waves.now view.now.hazards.now }
+    requires best { IfSome so_far.best (λ told. is_starred (slack_by told.slack) ≡ true) }
+    ensures is { result ≡ with_guard view.now.circuit.now paths.now.known.entries
+        paths.now.arrivals edges.now sought.held sought.corner so_far sought.edge }
+    ensures best { IfSome result.best (λ told. is_starred (slack_by told.slack) ≡ true) }
+{
+    let Sought { held, edge, corner } = sought;
+    let Some(numbers) = range(paths, held, edge.net, corner) else {
+        return Least {
+            reason: Reason::DataLoop,
+            ..so_far
+        };
+    };
+    let best = best_of(view, paths, edges, sought, numbers, so_far.best);
+    Least { best, ..so_far }
+}
+
+/// The least slack of one side over the edges of some windows, by the arrivals that are known; a
+/// reason if there is none.
+fn least_told<W: CyclicWave<Item = Value>>(
+    view: &View<W>,
+    paths: &Paths,
+    edges: &[Guard],
+    held: Held,
+    corner: Corner,
+) -> Told
+    requires sees { Sees view.now.circuit.now view.now.waves.now view.now.hazards.now }
+    ensures is { result ≡ told_side view.now.circuit.now paths.now.known.entries
+        paths.now.arrivals held corner edges.now }
+    ensures starred { is_starred (slack_by result.slack) ≡ true }
+{
+    let mut least = Least {
+        best: None,
+        reason: Reason::Data,
+    };
+    for edge in edges {
+        let sought = Sought {
+            held,
+            edge: *edge,
+            corner,
+        };
+        least = with_edge(view, paths, edges, sought, least);
+    }
+    match least.best {
+        Some(told) => told,
+        None => Told::none(least.reason, held.place, Direction::Change),
+    }
+}
+
+/// The edge of a number.
+fn guard_at(edges: &[Guard], number: usize) -> Guard
+    requires { number < length edges.now }
+    ensures { slice_get edges.now number ≡ Some result }
+{
+    edges[number]
+}
+
+/// Works out the arrivals from each edge of some windows.
+fn work_out_all<W: CyclicWave<Item = Value>>(
+    view: &View<W>,
+    paths: &mut Paths,
+    edges: &[Guard],
+    held: Held,
+    corner: Corner,
+) -> Result<(), NoMemory>
+    requires sees { Sees view.now.circuit.now view.now.waves.now view.now.hazards.now }
+    requires knows { Knows view.now.circuit.now (waves_of view.now.waves.now) paths.old.nodes
+        paths.old.met.entries }
+    ensures paths { OnOk result (GoesOn view.now.circuit.now (waves_of view.now.waves.now)
+        paths.old.nodes paths.new.nodes paths.new.met.entries) }
+    ensures known { OnOk result (GuardsWorkedOut paths.new.known.entries held corner edges.now) }
+{
+    for number in 0..edges.len() {
+        let edge = guard_at(edges, number);
+        work_out(view, paths, held, edge.net, corner)?;
+    }
+    Ok(())
 }
 
 /// The least slack of one side of windows, over all launches and the edges that they are for; a
@@ -235,25 +300,14 @@ fn side<W: CyclicWave<Item = Value>>(
     requires extent { watch.extent.before ≤ period_of view.now.circuit.now.header }
     ensures paths { OnOk result (GoesOn view.now.circuit.now (waves_of view.now.waves.now)
         paths.old.nodes paths.new.nodes paths.new.met.entries) }
+    ensures is { let c = view.now.circuit.now in IfOk result (λ told. (guards : List Guard) ×
+        (GuardsWorkedOut paths.new.known.entries held corner guards
+        × (told ≡ told_side c paths.new.known.entries paths.new.arrivals held corner guards))) }
     ensures starred { IfOk result (λ told. is_starred (slack_by told.slack) ≡ true) }
 {
     let edges = edges(view, paths, watch, held, corner)?;
-    let mut least = Least {
-        best: None,
-        reason: Reason::Data,
-    };
-    for edge in edges.as_slice() {
-        let sought = Sought {
-            held,
-            edge: *edge,
-            corner,
-        };
-        least = with_edge(view, paths, edges.as_slice(), sought, least)?;
-    }
-    Ok(match least.best {
-        Some(told) => told,
-        None => Told::none(least.reason, held.place, Direction::Change),
-    })
+    work_out_all(view, paths, edges.as_slice(), held, corner)?;
+    Ok(least_told(view, paths, edges.as_slice(), held, corner))
 }
 
 /// The least slacks before windows and after them of data that may change in every slot.

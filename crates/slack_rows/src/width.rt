@@ -15,7 +15,7 @@ ghost use Rattle.flat_circuit.specs.Limits.{high_of, low_of};
 ghost use Rattle.critical_paths.specs.Tick.{IsWithin, most_tick};
 ghost use Rattle.critical_paths.specs.Views.{Sees};
 ghost use Rattle.slack_rows.specs.Limit.{begin_of, told_level};
-ghost use Rattle.slack_rows.specs.Pulse.{changes_again, latest_begin, left_at, left_by, left_if, left_in, left_of as left_after, may_change_again, narrowest as narrowest_of, told_wave};
+ghost use Rattle.slack_rows.specs.Pulse.{begins_by, begins_if, begins_in, changes_again, latest_begin, left_at, left_by, left_if, left_in, left_of as left_after, may_change_again, narrowest as narrowest_of, told_wave};
 ghost use Rattle.slack_rows.specs.Slack.{told_of};
 ghost use Rattle.slack_rows.specs.Views.{Tells, comes_again};
 
@@ -163,8 +163,7 @@ fn late_begin(split: &Split, level: bool) -> u16
 /// begins at its output, and how many ticks are left.
 fn nothing_left(split: &Split, level: bool, pulse: (u16, u16)) -> Option<(i64, i64)>
     ensures left { option_map (λ left. left.1) result ≡ left_if split.now level (Some pulse) }
-    ensures begin { IfSome result
-        (λ left. left.0 ≡ pos pulse.0 +ℤ pos (latest_begin split.now level)) }
+    ensures begin { option_map (λ left. left.0) result ≡ begins_if split.now level (Some pulse) }
     ensures near { IfSome result (λ left. IsWithin (2 ^ 20) left.0) }
     ensures few { IfSome result (λ left. IsWithin (2 ^ 20) left.1) }
 {
@@ -192,6 +191,9 @@ fn swallowed_by<W: CyclicWave<Item = Value>>(
     ensures left { let c = view.now.circuit.now in let j = element.now in
         IfOk result (λ found. option_map (λ left. left.1) found
         ≡ left_by c (waves_of view.now.waves.now) j level (two_delays j.kind j.split)) }
+    ensures begin { let c = view.now.circuit.now in let j = element.now in
+        IfOk result (λ found. option_map (λ left. left.0) found
+        ≡ begins_by c (waves_of view.now.waves.now) j level (two_delays j.kind j.split)) }
 {
     match element.split {
         None => Ok(None),
@@ -221,6 +223,9 @@ fn swallowed_behind<W: CyclicWave<Item = Value>>(
     ensures left { let c = view.now.circuit.now in
         IfOk result (λ found. option_map (λ left. left.1) found
         ≡ left_in c (waves_of view.now.waves.now) level (driver c net)) }
+    ensures begin { let c = view.now.circuit.now in
+        IfOk result (λ found. option_map (λ left. left.0) found
+        ≡ begins_in c (waves_of view.now.waves.now) level (driver c net)) }
 {
     match view.circuit.driver_of(net) {
         None => Ok(None),

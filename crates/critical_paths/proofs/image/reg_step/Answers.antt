@@ -1,5 +1,5 @@
 use Rattle.std.proofs.Common.{◌∙◌}
-use Rattle.step_values.specs.StepSet.{followed_by, in_set}
+use Rattle.step_values.specs.StepSet.{in_set}
 use Rattle.critical_paths.proofs.Making.{reg_steps}
 use Rattle.critical_paths.proofs.image.reg_step.Goals as goal
 

@@ -1,5 +1,5 @@
-use Rattle.std.proofs.Common.{◌≡◌, ℕ, ◌≤◌, Bool, true, false, not, ◌&&◌, List, [], ◌∷◌, length, map, None, refl, sym, ap, subst, ◌∙◌, arith}
-use Rattle.std.specs.Prelude.{◌==◌}
+use Rattle.std.proofs.Common.{◌≡◌, ℕ, ◌≤◌, Bool, true, false, not, ◌&&◌, ◌||◌, cond, List, [], ◌∷◌, length, map, Option, Some, None, refl, sym, ap, subst, ◌∙◌, arith, is_some}
+use Rattle.std.specs.Prelude.{◌==◌, IfSome}
 use Rattle.std.specs.List.{AllByRecursion}
 use Rattle.scald_base.specs.Time.{period}
 use Rattle.fixpoint_engine.specs.Waves.{waves_of}
@@ -8,9 +8,11 @@ use Rattle.critical_paths.specs.declared.region.Slots.{Slots}
 use Rattle.critical_paths.specs.Event.{Events}
 use Rattle.critical_paths.specs.Region.{IsCyclic, Region, all_events, regions, some_event}
 use Rattle.critical_paths.specs.Views.{ticks_of_region}
-use Rattle.slack_rows.specs.declared.slack.Reason.TheVariants.{Data}
+use Rattle.critical_paths.specs.declared.direction.Direction.{Direction}
+use Rattle.slack_rows.specs.declared.held.Held.{Held}
+use Rattle.slack_rows.specs.declared.slack.Reason.TheVariants.{Data, Mark, Still}
 use Rattle.slack_rows.specs.declared.slack.Slacks.{Slacks}
-use Rattle.slack_rows.specs.Held.{AreChanges, AreSlots, launches_of, place_in, two_of, windows_about}
+use Rattle.slack_rows.specs.Held.{AreChanges, AreSlots, are_none, launches_of, place_in, same_both, two_of, windows_about, without_windows}
 use Rattle.slack_rows.specs.Laws.{IsPlaced}
 use Rattle.slack_rows.specs.Slack.{NoNumber, Nowhere, told_alone, told_of}
 use Rattle.slack_rows.specs.Views.{told_by_found, told_none}
@@ -137,3 +139,81 @@ returns-clause-told g c =
     (c.in_ok-found.ensures.told ev
     (subst (AreChanges p ev) (sym c.as_slice-moving.ensures) (changes_are p ev changes cyclic are c.if-changes.false))
     (subst (AllByRecursion (IsPlaced p)) (sym are_windows) (all_placed p quiet (extent_of 1 0) (omega arith) (omega (arith, long)))))
+
+-- ---- without windows
+
+are : (o : Option Slacks) (found told : Slacks) → o ≡ Some found → told ≡ found → IfSome o (λ f. told ≡ f)
+are None found told is same = absurd (cc)
+are (Some f) found told is same = same ∙ sym (let own : f ≡ found = cc in own)
+
+nowhere : (o : Option Slacks) (P : Slacks → Type 0) → o ≡ None → IfSome o P
+nowhere None P none = tt
+nowhere (Some f) P none = absurd (cc)
+
+abbrev without : Option Held → Direction → Bool → Bool → Bool → Bool → Option Slacks
+without held d free unmet still all =
+    cond (free || unmet) (Some (same_both None))
+    (cond still (Some (record { level = Some (told_none (cond (is_some held) Mark Still) (place_in held) d); before = None; after = None }))
+    (cond all (Some (same_both (Some (told_none Data (place_in held) d)))) None))
+
+pub returns-then-is_free-clause-without : goal.returns-then-is_free-clause-without
+returns-then-is_free-clause-without g c =
+    let held = c.args.held in
+    let d = c.args.direction in
+    let changes = c.args.changes.now in
+    let still = c.args.still.now in
+    are (without_windows held d changes still) (same_both None) _
+    (ap (λ (b : Bool). without held d b (are_none still) still.are_all changes.are_all) (sym c.are_none-is_free.ensures ∙ c.if-is_free.true)) refl
+
+pub returns-then-is_unmet-clause-without : goal.returns-then-is_unmet-clause-without
+returns-then-is_unmet-clause-without g c =
+    let held = c.args.held in
+    let d = c.args.direction in
+    let changes = c.args.changes.now in
+    let still = c.args.still.now in
+    let free : are_none changes ≡ false = sym c.are_none-is_free.ensures ∙ c.if-is_free.false in
+    let unmet : are_none still ≡ true = sym c.are_none-is_unmet.ensures ∙ c.if-is_unmet.true in
+    are (without_windows held d changes still) (same_both None) _
+    (λ i. without held d (free i) (unmet i) still.are_all changes.are_all) refl
+
+pub returns-then-still-clause-without : goal.returns-then-still-clause-without
+returns-then-still-clause-without g c =
+    let held = c.args.held in
+    let d = c.args.direction in
+    let changes = c.args.changes.now in
+    let still = c.args.still.now in
+    let free : are_none changes ≡ false = sym c.are_none-is_free.ensures ∙ c.if-is_free.false in
+    let unmet : are_none still ≡ false = sym c.are_none-is_unmet.ensures ∙ c.if-is_unmet.false in
+    let all : still.are_all ≡ true = c.if-still.true in
+    are (without_windows held d changes still)
+    (record { level = Some (told_none (cond (is_some held) Mark Still) (place_in held) d); before = None; after = None }) _
+    (λ i. without held d (free i) (unmet i) (all i) changes.are_all)
+    (c.level.ensures
+    ∙ (λ i. record { level = Some (told_none (c.never_still.ensures.is i) (c.place_of.ensures i) d); before = None; after = None }))
+
+pub returns-then-changes-clause-without : goal.returns-then-changes-clause-without
+returns-then-changes-clause-without g c =
+    let held = c.args.held in
+    let d = c.args.direction in
+    let changes = c.args.changes.now in
+    let still = c.args.still.now in
+    let free : are_none changes ≡ false = sym c.are_none-is_free.ensures ∙ c.if-is_free.false in
+    let unmet : are_none still ≡ false = sym c.are_none-is_unmet.ensures ∙ c.if-is_unmet.false in
+    let some : still.are_all ≡ false = c.if-still.false in
+    let all : changes.are_all ≡ true = c.if-changes.true in
+    are (without_windows held d changes still) (same_both (Some (told_none Data (place_in held) d))) _
+    (λ i. without held d (free i) (unmet i) (some i) (all i))
+    (c.none.ensures ∙ (λ i. same_both (Some (told_none Data (c.place_of-then-changes.ensures i) d))))
+
+pub returns-clause-without : goal.returns-clause-without
+returns-clause-without g c =
+    let held = c.args.held in
+    let d = c.args.direction in
+    let changes = c.args.changes.now in
+    let still = c.args.still.now in
+    let free : are_none changes ≡ false = sym c.are_none-is_free.ensures ∙ c.if-is_free.false in
+    let unmet : are_none still ≡ false = sym c.are_none-is_unmet.ensures ∙ c.if-is_unmet.false in
+    let some : still.are_all ≡ false = c.if-still.false in
+    let moves : changes.are_all ≡ false = c.if-changes.false in
+    nowhere (without_windows held d changes still) (λ found. c.in_ok-found.found ≡ found)
+    (λ i. without held d (free i) (unmet i) (some i) (moves i))

@@ -1,7 +1,7 @@
 use Rattle.std.proofs.Common.{sym, ap, ◌∙◌}
 use Rattle.flat_circuit.specs.Split.{two_delays}
 use Rattle.fixpoint_engine.specs.Waves.{waves_of}
-use Rattle.slack_rows.specs.Pulse.{left_by, left_in}
+use Rattle.slack_rows.specs.Pulse.{begins_by, begins_in, left_by, left_in}
 use Rattle.slack_rows.proofs.Breadths.{driver_fits}
 use Rattle.slack_rows.proofs.width.swallowed_behind.Goals as goal
 
@@ -21,3 +21,16 @@ returns-in_ok-found-in-Some-clause-left g c =
     c.in_ok-found-in-Some.ensures.left
     ∙ ap (λ own. left_by d ws j own (two_delays j.kind j.split)) c.level_behind-own.ensures
     ∙ ap (left_in d ws c.args.level) c.in-Some.ensures
+
+pub returns-in-None-clause-begin : goal.returns-in-None-clause-begin
+returns-in-None-clause-begin g c =
+    ap (begins_in c.args.view.now.circuit.now (waves_of c.args.view.now.waves.now) c.args.level) c.in-None.ensures
+
+pub returns-in_ok-found-in-Some-clause-begin : goal.returns-in_ok-found-in-Some-clause-begin
+returns-in_ok-found-in-Some-clause-begin g c =
+    let d = c.args.view.now.circuit.now in
+    let ws = waves_of c.args.view.now.waves.now in
+    let j = c.in-Some.element.now in
+    c.in_ok-found-in-Some.ensures.begin
+    ∙ ap (λ own. begins_by d ws j own (two_delays j.kind j.split)) c.level_behind-own.ensures
+    ∙ ap (begins_in d ws c.args.level) c.in-Some.ensures

@@ -69,7 +69,7 @@ returns-in-Input-clause-halt g c = (
     not_got c.links.chain.entries c.links.stop
         (sym c.get_index_of.ensures.found
         ∙ ap (λ (o : Option ℕ). is_some o) c.in_default-get_index_of.is),
-    c.source.ensures,
+    c.source.ensures.tells,
   ),
 )
 
