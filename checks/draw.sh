@@ -28,13 +28,14 @@ draws() {
     echo "$picture $work/reports/$1 $3" >>"$work/list"
 }
 
-# has_none NAME DRAWING: there is no case of the highest number, and standard error says so
+# has_none NAME DRAWING COUNT: there is no case of the highest number, and standard error says how many are listed
 has_none() {
     "$program" draw case=256 <"$2" >"$work/out" 2>"$work/said"
     status=$?
     [ "$status" -eq 10 ] || failure "$1: draw case=256: status $status in place of 10"
     [ ! -s "$work/out" ] || failure "$1: draw case=256 writes something"
-    grep -q '^scald: the drawing has no such case: it has [0-9]*$' "$work/said" || failure "$1: draw case=256: nothing is said"
+    grep -qx "scald: the drawing has no such case: it has $3" "$work/said" ||
+        failure "$1: draw case=256: it does not say that there are $3"
 }
 
 # is_stored NAME PICTURE: the picture that was drawn last is this one
@@ -55,13 +56,15 @@ try_text() {
         cmp -s "$work/out" "$work/reports/$1" || failure "$1: draw case=0: another answer than that of verify"
         return
     fi
+    listed=0
+    [ "$cases" = 0 ] || listed=$(echo "$cases" | wc -l | tr -d ' ')
     [ "${3-}" = all ] || cases=${cases%%
 *}
     for number in $cases; do
         draws "$1" "$2" "$number" "$wanted"
         [ ! -f "${2%.scald}.svg" ] || [ "$number" -gt 1 ] || is_stored "$1" "${2%.scald}.svg"
     done
-    has_none "$1" "$2"
+    has_none "$1" "$2" "$listed"
 }
 
 for drawing in "$top"/checks/draw/*.scald "$top"/examples/*.scald; do
@@ -81,6 +84,23 @@ PYTHONPATH=$top/checks python3 -B -m model.random_files "$work/drawings" "$count
 for drawing in "$work"/drawings/*.scald; do
     try_text "$(basename -- "$drawing" .scald)" "$drawing"
 done
+
+# Clocks come first, each list in name order: by an assertion (Z), on an enable (Y), and on a pin whose pulses are
+# measured (A<1>, which is so in no row with A<0>, though both have one wave).
+cat >"$work/drawings/order.scald" <<'TEXT'
+SCALD 2;
+CLOCK 4 x 2;
+DRAWING ORDER;
+  g : AND [0:0] ("Z .P1-3", "E .S0-4") -> ("Y");
+  l : LATCH [0:1] ("Y", "A .S3-2"<0:1>) -> ("Q"<0:1>);
+  c : MIN_PULSE_CHK ("A"<1>);
+END;
+TEXT
+try_text order "$work/drawings/order.scald"
+order=$(sed -n 's/.*<g transform="translate(0 [0-9]*)"><title>\([^ ]*\) SKEW .*/\1/p' "$work/pictures/order.0.svg" |
+    tr '\n' ' ')
+[ "$order" = 'A&lt;1&gt; Y&lt;0&gt; Z&lt;0&gt; A&lt;0&gt; E&lt;0&gt; Q&lt;0:1&gt; ' ] ||
+    failure "order: the rows are $order"
 
 # The limits: 8,192 rows, here of one net each, whose names differ in their paths; and 262,144 runs, here of bits that
 # do not adjoin and may change at every second tick of a period of 4,096.
