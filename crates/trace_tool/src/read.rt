@@ -15,7 +15,6 @@ ghost use Rattle.trace_tool.specs.Reading.{IsFitPick, most_ticks};
 ghost use Rattle.trace_tool.specs.Scan.{AreSmall, IsGuess, numbers_of, picked, picks_count, shown};
 
 use crate::scan::numbers;
-use crate::split::is_same;
 use crate::write::{add_head, add_instance, add_net};
 use element_kinds::Form;
 use flat_circuit::{Circuit, Instance, Pin, Target};
@@ -78,7 +77,7 @@ fn is_head(alloc: Global, ticks: u16, line: &[u8]) -> Result<bool, NoMemory>
 {
     let mut text = Bytes::new(alloc);
     add_head(&mut text, ticks)?;
-    Ok(is_same(line, text.as_slice()))
+    Ok(line == text.as_slice())
 }
 
 /// The ticks that a head says, if it is one.
@@ -197,7 +196,7 @@ fn is_instance_line(
 {
     let mut text = Bytes::new(alloc);
     add_instance(&mut text, i, pick, wires)?;
-    Ok(is_same(line, text.as_slice()))
+    Ok(line == text.as_slice())
 }
 
 /// The delays that the line of an instance says, if it is one of a trace.
@@ -258,7 +257,7 @@ fn is_net_line(
 {
     let mut text = Bytes::new(alloc);
     add_net(&mut text, c, net, row)?;
-    Ok(is_same(line, text.as_slice()))
+    Ok(line == text.as_slice())
 }
 
 /// The bits that the line of a net says, if it is one of a trace of so many ticks.

@@ -1,17 +1,8 @@
 //! A text, cut into lines, and where a trace in it ends.
 
-ghost use Rattle.std.specs.Prelude.{◌≡◌, [], MatchBool, MatchOption};
+ghost use Rattle.std.specs.Prelude.{◌≡◌, [], MatchOption};
 ghost use Rattle.trace_tool.specs.Reading.{HasNoTrace, HasTrace};
 ghost use Rattle.trace_tool.specs.Scan.{StartsWith, lines_of};
-
-use scald_base::same_bytes;
-
-/// Whether two texts are the same.
-pub(crate) fn is_same(text: &[u8], other: &[u8]) -> bool
-    ensures { MatchBool result (text.now ≡ other.now) (¬ (text.now ≡ other.now)) }
-{
-    same_bytes(text, other)
-}
 
 /// The first line of a text, without the byte 10 that ends it, and what follows it; `None` exactly
 /// if no line ends.
@@ -35,7 +26,7 @@ pub fn split_trace(text: &[u8]) -> Option<(&[u8], &[u8])>
 {
     let mut rest = text;
     'lines: while let Some((line, after)) = next_line(rest) {
-        if is_same(line, b"END TRACE") {
+        if line == b"END TRACE".as_slice() {
             return Some((&text[..text.len() - after.len()], after));
         }
         rest = after;

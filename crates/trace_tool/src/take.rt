@@ -9,7 +9,7 @@ ghost use Rattle.trace_tool.specs.Taking.{AreLong, IsFault, IsLineOf, IsRefused,
 
 use crate::line::{Line, line_at, line_count};
 use crate::read::{read_bits, read_delays, read_head};
-use crate::split::{is_same, next_line};
+use crate::split::next_line;
 use crate::trace::{Trace, TraceFault};
 use flat_circuit::Circuit;
 use scald_base::{List, NoMemory};
@@ -33,7 +33,7 @@ fn take_line(
         Line::Head => take_head(alloc, line, trace),
         Line::Delays(k) => take_delays(alloc, c, k, line, trace),
         Line::Bits(net) => take_bits(alloc, c, net, line, trace),
-        Line::End => Ok(is_same(line, b"END TRACE")),
+        Line::End => Ok(line == b"END TRACE".as_slice()),
     }
 }
 
