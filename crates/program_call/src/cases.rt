@@ -37,8 +37,7 @@ fn add_case<R: Reporter, W: CyclicWave<Item = Value>>(
     ensures ready { OnOk result (R.ready reporter.new circuit.now (place + 1)) }
     ensures holds { OnOk result ((asked : R.Asked) (kept : R.Kept) (limit base : ℕ)
         (before : List Listed) (listed : Listed) →
-        IsCaseIn circuit.now limit base listed case.now.number case.now.settled.rounds case.now.tick
-        store.now case.now.settled.numbers case.now.faults →
+        IsCaseIn circuit.now limit base listed store.now case.now →
         OfCases circuit.now limit base before
         (λ (cases : List Case). R.holds reporter.old asked kept circuit.now base cases) →
         OfCases circuit.now limit base (before ++ listed ∷ [])

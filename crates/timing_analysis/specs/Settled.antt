@@ -8,6 +8,7 @@ use Rattle.fixpoint_engine.specs.Table.{AreKnown, waves_at}
 use Rattle.fixpoint_engine.specs.Waves.{FitWaves, waves_of}
 use Rattle.case_analysis.specs.Base.{IsBase, PermitInputs}
 use Rattle.timing_analysis.specs.declared.case_faults.KnownFaults.{KnownFaults}
+use Rattle.timing_analysis.specs.declared.settled.SettledCase.{SettledCase}
 use Rattle.timing_analysis.specs.Known.{IsKnown}
 use Rattle.timing_analysis.specs.Case.{Listed, Case, IsSettled, printed_tick, faults_of}
 use Rattle.timing_analysis.specs.Promise.{IsKept, IsUnbroken}
@@ -49,7 +50,9 @@ pub record IsBaseIn (c : Circuit) (limit base : ℕ) (table : List (Wave Value))
   pub are : AreKnown table numbers
   pub settled : IsSettledBase c limit base (waves_at table numbers) known
 
-pub record IsCaseIn (c : Circuit) (limit base : ℕ) (listed : Listed) (number rounds tick : ℕ)
-    (table : List (Wave Value)) (numbers : List ℕ) (fs : List Fault) : Type 0 where
-  pub are : AreKnown table numbers
-  pub settled : IsSettledCase c limit base listed number rounds tick (waves_at table numbers) fs
+pub record IsCaseIn (c : Circuit) (limit base : ℕ) (listed : Listed) (table : List (Wave Value))
+    (k : SettledCase) : Type 0 where
+  pub are : AreKnown table k.settled.numbers
+  pub settled :
+      IsSettledCase c limit base listed k.number k.settled.rounds k.tick
+      (waves_at table k.settled.numbers) k.faults

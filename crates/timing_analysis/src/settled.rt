@@ -113,7 +113,7 @@ impl Subject {
         ensures settled { IfOk result (λ k.
             IsCaseIn self.now.circuit limit settled_base.old.base.rounds
             (record { number = place + 1; values = case_at self.now.cases place })
-            k.number k.settled.rounds k.tick settled_base.new.store k.settled.numbers k.faults) }
+            settled_base.new.store k) }
         ensures unsettled { IfErr result (EndsCase self.now.circuit limit
             settled_base.old.base.rounds (record {
               number = place + 1;
@@ -164,8 +164,7 @@ impl<W: CyclicWave<Item = Value>> SettledBase<W> {
         requires settled { IsBaseIn subject.now.circuit limit self.base.rounds self.store
             self.base.numbers self.known }
         ensures { IfOk result (λ k. IsCaseIn subject.now.circuit limit self.base.rounds
-            (record { number = 0; values = [] })
-            k.1.number k.1.settled.rounds k.1.tick k.0 k.1.settled.numbers k.1.faults) }
+            (record { number = 0; values = [] }) k.0 k.1) }
     {
         let SettledBase {
             store,

@@ -78,9 +78,8 @@ loop-place-preserved g c =
     let invariant = c.loop-place.invariant in
     let case = c.in_ok-case.case in
     let settled =
-    subst (λ (b : ℕ). IsCaseIn circuit limit b (here cases place inside) case.number
-    case.settled.rounds case.tick
-    c.case.new.settled_base.store case.settled.numbers case.faults) invariant.same
+    subst (λ (b : ℕ). IsCaseIn circuit limit b (here cases place inside)
+    c.case.new.settled_base.store case) invariant.same
     c.in_ok-case.ensures.settled in
     record {
       so_far =

@@ -67,9 +67,13 @@ pub returns-clause-settled : goal.returns-clause-settled
 returns-clause-settled g c =
     let kept = c.in_ok-shorten.ensures.kept c.args.self.now.circuit c.args.limit c.requires.settled in
     let values = case_at c.args.self.now.cases c.args.place in
-    subst (λ b. IsCaseIn c.args.self.now.circuit c.args.limit b (record { number = c.args.place + 1; values = values }) (c.args.place + 1)
-    c.in_ok-settled.settled.rounds c.tick-tick.result c.case_waves.new.store
-    c.in_ok-settled.settled.numbers c.in_ok-found.found)
+    subst (λ b. IsCaseIn c.args.self.now.circuit c.args.limit b (record { number = c.args.place + 1; values = values })
+    c.case_waves.new.store (record {
+      number = c.args.place + 1;
+      settled = c.in_ok-settled.settled;
+      tick = c.tick-tick.result;
+      faults = c.in_ok-found.found;
+    }))
     c.shorten.ensures.round
     (record {
       are = c.in_ok-settled.ensures.known;
