@@ -8,7 +8,7 @@ use Rattle.value_change_dump.specs.declared.tick.TickLength.{TickLength}
 use Rattle.value_change_dump.specs.Tick.{tick_of}
 use Rattle.value_change_dump.specs.Variable.{code_of}
 use Rattle.value_change_dump.specs.Change.{Command, End, Start, Time, Value}
-use Rattle.value_change_dump.specs.Reading.{commands_in, told}
+use Rattle.value_change_dump.specs.Reading.{commands_in, value_at}
 
 -- ---- codes: the first and the last of one, two and three digits
 
@@ -45,12 +45,12 @@ read : commands_in bytes ≡ commands
 read = refl
 
 -- what has changed before a tick stays, and what changes after it is not known at it
-values : map (λ (t : ℕ). told (codes "\"") t commands []) (0 ∷ 2 ∷ 3 ∷ 11 ∷ [])
+values : map (λ (t : ℕ). value_at (codes "\"") t commands []) (0 ∷ 2 ∷ 3 ∷ 11 ∷ [])
     ≡ (true ∷ false ∷ []) ∷ (true ∷ false ∷ []) ∷ (true ∷ true ∷ []) ∷ (true ∷ true ∷ []) ∷ []
 values = refl
 
-others : told (codes "!") 11 commands [] ≡ false ∷ []
+others : value_at (codes "!") 11 commands [] ≡ false ∷ []
 others = refl
 
-of_no_variable : told (codes "#") 11 commands [] ≡ []
+of_no_variable : value_at (codes "#") 11 commands [] ≡ []
 of_no_variable = refl

@@ -13,7 +13,7 @@ use Rattle.value_change_dump.specs.Stretch.{cut, cut_all, first, follows, longer
 use Rattle.value_change_dump.specs.Variable.{code_of}
 use Rattle.value_change_dump.specs.Change.{Command, End, Start, Time, change, later_commands, level, levels, steps, tick_commands, value_if, value_of}
 use Rattle.value_change_dump.specs.Dump.{changes, start_commands}
-use Rattle.value_change_dump.specs.Reading.{BitsComeBack, told}
+use Rattle.value_change_dump.specs.Reading.{BitsComeBack, value_at}
 use Rattle.value_change_dump.proofs.Codes.{codes_differ}
 use Rattle.value_change_dump.proofs.Cutting.{stretches_are}
 
@@ -72,10 +72,10 @@ module _ (c : Circuit) (rows : List (List Bool)) (s : Stretch) (t : ℕ) where
   picked q u false is only = refl
 
   keep_all : (u : ℕ) (rest : List Command) (ss : List Stretch) → Only ss →
-      told code t (map (value_of c rows u) ss ++ rest) (value s u) ≡ told code t rest (value s u)
+      value_at code t (map (value_of c rows u) ss ++ rest) (value s u) ≡ value_at code t rest (value s u)
   keep_all u rest [] only = refl
   keep_all u rest (q ∷ qs) only =
-      ap (told code t (map (value_of c rows u) qs ++ rest)) (picked q u (is_own q) refl (only 0 q (omega arith)))
+      ap (value_at code t (map (value_of c rows u) qs ++ rest)) (picked q u (is_own q) refl (only 0 q (omega arith)))
       ∙ keep_all u rest qs (rest_only q qs only)
 
   own_value : (q : Stretch) (u : ℕ) (last : List Bool) → q ≡ s → (if is_own q then value q u else last) ≡ value s u
@@ -84,10 +84,10 @@ module _ (c : Circuit) (rows : List (List Bool)) (s : Stretch) (t : ℕ) where
       ∙ ap (λ (mine : Bool). if mine then value s u else last) own
 
   found_all : (u : ℕ) (rest : List Command) (ss : List Stretch) (k : ℕ) (d : Stretch) (last : List Bool) → k < length ss → get_or ss k d ≡ s → Only ss →
-      told code t (map (value_of c rows u) ss ++ rest) last ≡ told code t rest (value s u)
+      value_at code t (map (value_of c rows u) ss ++ rest) last ≡ value_at code t rest (value s u)
   found_all u rest [] k d last below is only = absurd (omega arith)
   found_all u rest (q ∷ qs) zero d last below is only =
-      ap (told code t (map (value_of c rows u) qs ++ rest)) (own_value q u last is)
+      ap (value_at code t (map (value_of c rows u) qs ++ rest)) (own_value q u last is)
       ∙ keep_all u rest qs (rest_only q qs only)
   found_all u rest (q ∷ qs) (suc k) d last below is only =
       found_all u rest qs k d (if is_own q then value q u else last) (omega arith) is (rest_only q qs only)
@@ -99,8 +99,8 @@ module _ (c : Circuit) (rows : List (List Bool)) (s : Stretch) (t : ℕ) where
   after stepping q u last = if stepping then (if is_own q then value q u else last) else last
 
   one_given : (q : Stretch) (u : ℕ) (others rest : List Command) (last : List Bool) (stepping : Bool) →
-      told code t (((if stepping then value_of c rows u q ∷ [] else []) ++ others) ++ rest) last
-      ≡ told code t (others ++ rest) (after stepping q u last)
+      value_at code t (((if stepping then value_of c rows u q ∷ [] else []) ++ others) ++ rest) last
+      ≡ value_at code t (others ++ rest) (after stepping q u last)
   one_given q u others rest last true = refl
   one_given q u others rest last false = refl
 
@@ -113,11 +113,11 @@ module _ (c : Circuit) (rows : List (List Bool)) (s : Stretch) (t : ℕ) where
   kept q u false only = refl
 
   keep_if : (u : ℕ) (rest : List Command) (ss : List Stretch) → Only ss →
-      told code t (flat_map (value_if c rows u) ss ++ rest) (value s u) ≡ told code t rest (value s u)
+      value_at code t (flat_map (value_if c rows u) ss ++ rest) (value s u) ≡ value_at code t rest (value s u)
   keep_if u rest [] only = refl
   keep_if u rest (q ∷ qs) only =
       one_given q u (flat_map (value_if c rows u) qs) rest (value s u) (steps c rows u q)
-      ∙ ap (told code t (flat_map (value_if c rows u) qs ++ rest)) (kept q u (steps c rows u q) (only 0 q (omega arith)))
+      ∙ ap (value_at code t (flat_map (value_if c rows u) qs ++ rest)) (kept q u (steps c rows u q) (only 0 q (omega arith)))
       ∙ keep_if u rest qs (rest_only q qs only)
 
   near_by : (q : Stretch) (u : ℕ) (last : List Bool) (mine : Bool) → is_own q ≡ mine → (is_own q ≡ true → q ≡ s) → IsNear u last →
@@ -140,11 +140,11 @@ module _ (c : Circuit) (rows : List (List Bool)) (s : Stretch) (t : ℕ) where
       ap (λ (r : Stretch). after (steps c rows u r) r u last) same ∙ turn u last (steps c rows u s) refl close
 
   found_if : (u : ℕ) (rest : List Command) (ss : List Stretch) (k : ℕ) (d : Stretch) (last : List Bool) → k < length ss → get_or ss k d ≡ s → Only ss → IsNear u last →
-      told code t (flat_map (value_if c rows u) ss ++ rest) last ≡ told code t rest (value s u)
+      value_at code t (flat_map (value_if c rows u) ss ++ rest) last ≡ value_at code t rest (value s u)
   found_if u rest [] k d last below is only close = absurd (omega arith)
   found_if u rest (q ∷ qs) zero d last below is only close =
       one_given q u (flat_map (value_if c rows u) qs) rest last (steps c rows u q)
-      ∙ ap (told code t (flat_map (value_if c rows u) qs ++ rest)) (its_turn q u last is close)
+      ∙ ap (value_at code t (flat_map (value_if c rows u) qs ++ rest)) (its_turn q u last is close)
       ∙ keep_if u rest qs (rest_only q qs only)
   found_if u rest (q ∷ qs) (suc k) d last below is only close =
       one_given q u (flat_map (value_if c rows u) qs) rest last (steps c rows u q)
@@ -153,15 +153,15 @@ module _ (c : Circuit) (rows : List (List Bool)) (s : Stretch) (t : ℕ) where
 
   -- ---- tick by tick
 
-  time_on : (u : ℕ) (cs : List Command) (last : List Bool) → u ≤ t → told code t (Time u ∷ cs) last ≡ told code t cs last
+  time_on : (u : ℕ) (cs : List Command) (last : List Bool) → u ≤ t → value_at code t (Time u ∷ cs) last ≡ value_at code t cs last
   time_on u cs last early =
       let on : nat_le u t ≡ true = search (rules, tests) in
-      ap (λ (b : Bool). if b then told code t cs last else last) on
+      ap (λ (b : Bool). if b then value_at code t cs last else last) on
 
-  time_past : (u : ℕ) (cs : List Command) (last : List Bool) → t < u → told code t (Time u ∷ cs) last ≡ last
+  time_past : (u : ℕ) (cs : List Command) (last : List Bool) → t < u → value_at code t (Time u ∷ cs) last ≡ last
   time_past u cs last late =
       let past : nat_le u t ≡ false = search (rules, tests) in
-      ap (λ (b : Bool). if b then told code t cs last else last) past
+      ap (λ (b : Bool). if b then value_at code t cs last else last) past
 
   -- it is among all
   record IsAt (ss : List Stretch) : Type 0 where
@@ -172,52 +172,52 @@ module _ (c : Circuit) (rows : List (List Bool)) (s : Stretch) (t : ℕ) where
     only : Only ss
 
   tick_on : (u : ℕ) (rest : List Command) (ss : List Stretch) → IsAt ss → u ≤ t → (any : Bool) → list_any (steps c rows u) ss ≡ any →
-      told code t ((if any then Time u ∷ flat_map (value_if c rows u) ss else []) ++ rest) (value s (u - 1)) ≡ told code t rest (value s u)
+      value_at code t ((if any then Time u ∷ flat_map (value_if c rows u) ss else []) ++ rest) (value s (u - 1)) ≡ value_at code t rest (value s u)
   tick_on u rest ss at early true any =
       time_on u (flat_map (value_if c rows u) ss ++ rest) (value s (u - 1)) early
       ∙ found_if u rest ss at.place at.default (value s (u - 1)) at.below at.is at.only (inl refl)
   tick_on u rest ss at early false none =
       let still : steps c rows u s ≡ false =
       subst (λ (q : Stretch). steps c rows u q ≡ false) at.is (none_of (steps c rows u) ss at.place at.default at.below none) in
-      ap (told code t rest) (unchanged c rows u s.from (s.to - s.from) still)
+      ap (value_at code t rest) (unchanged c rows u s.from (s.to - s.from) still)
 
-  tick_past : (u : ℕ) (rest : List Command) (ss : List Stretch) (last : List Bool) → t < u → told code t rest last ≡ last → (any : Bool) →
-      told code t ((if any then Time u ∷ flat_map (value_if c rows u) ss else []) ++ rest) last ≡ last
+  tick_past : (u : ℕ) (rest : List Command) (ss : List Stretch) (last : List Bool) → t < u → value_at code t rest last ≡ last → (any : Bool) →
+      value_at code t ((if any then Time u ∷ flat_map (value_if c rows u) ss else []) ++ rest) last ≡ last
   tick_past u rest ss last late same true = time_past u (flat_map (value_if c rows u) ss ++ rest) last late
   tick_past u rest ss last late same false = same
 
-  past : (n u end : ℕ) (ss : List Stretch) (last : List Bool) → t < u → t < end → told code t (later_commands c rows ss u n ++ Time end ∷ []) last ≡ last
+  past : (n u end : ℕ) (ss : List Stretch) (last : List Bool) → t < u → t < end → value_at code t (later_commands c rows ss u n ++ Time end ∷ []) last ≡ last
   past zero u end ss last late after = time_past end [] last after
   past (suc n) u end ss last late after =
-      ap (λ (cs : List Command). told code t cs last) (append_assoc (tick_commands c rows ss u) (later_commands c rows ss (u + 1) n) (Time end ∷ []))
+      ap (λ (cs : List Command). value_at code t cs last) (append_assoc (tick_commands c rows ss u) (later_commands c rows ss (u + 1) n) (Time end ∷ []))
       ∙ tick_past u (later_commands c rows ss (u + 1) n ++ Time end ∷ []) ss last late (past n (u + 1) end ss last (omega arith) after)
       (list_any (steps c rows u) ss)
 
   ticks_on : (n u end : ℕ) (ss : List Stretch) → IsAt ss → u ≤ t + 1 → t < u + n → t < end →
-      told code t (later_commands c rows ss u n ++ Time end ∷ []) (value s (u - 1)) ≡ value s t
+      value_at code t (later_commands c rows ss u n ++ Time end ∷ []) (value s (u - 1)) ≡ value s t
   ticks_on zero u end ss at early some after =
       time_past end [] (value s (u - 1)) after ∙ ap (value s) (omega arith)
   ticks_on (suc n) u end ss at early some after = by (nat_le u t) refl (ticks_on n (u + 1) end ss at)
     where
       by : (here : Bool) → nat_le u t ≡ here →
-          (u + 1 ≤ t + 1 → t < u + 1 + n → t < end → told code t (later_commands c rows ss (u + 1) n ++ Time end ∷ []) (value s (u + 1 - 1)) ≡ value s t) →
-          told code t ((tick_commands c rows ss u ++ later_commands c rows ss (u + 1) n) ++ Time end ∷ []) (value s (u - 1)) ≡ value s t
+          (u + 1 ≤ t + 1 → t < u + 1 + n → t < end → value_at code t (later_commands c rows ss (u + 1) n ++ Time end ∷ []) (value s (u + 1 - 1)) ≡ value s t) →
+          value_at code t ((tick_commands c rows ss u ++ later_commands c rows ss (u + 1) n) ++ Time end ∷ []) (value s (u - 1)) ≡ value s t
       by true on further =
           let here : u ≤ t = search (rules, tests) in
           let rest = later_commands c rows ss (u + 1) n ++ Time end ∷ [] in
-          ap (λ (cs : List Command). told code t cs (value s (u - 1))) (append_assoc (tick_commands c rows ss u) (later_commands c rows ss (u + 1) n) (Time end ∷ []))
+          ap (λ (cs : List Command). value_at code t cs (value s (u - 1))) (append_assoc (tick_commands c rows ss u) (later_commands c rows ss (u + 1) n) (Time end ∷ []))
           ∙ tick_on u (later_commands c rows ss (u + 1) n ++ Time end ∷ []) ss at here (list_any (steps c rows u) ss) refl
-          ∙ ap (λ (v : ℕ). told code t (later_commands c rows ss (u + 1) n ++ Time end ∷ []) (value s v)) (omega arith)
+          ∙ ap (λ (v : ℕ). value_at code t (later_commands c rows ss (u + 1) n ++ Time end ∷ []) (value s v)) (omega arith)
           ∙ further (omega arith) (omega arith) after
       by false off further =
           let gone : t < u = search (rules, tests) in
           past (suc n) u end ss (value s (u - 1)) gone after ∙ ap (value s) (omega arith)
 
-  all_told : (ticks : ℕ) → IsAt (stretches c) → t < ticks → told code t (changes c rows ticks) [] ≡ value s t
+  all_values : (ticks : ℕ) → IsAt (stretches c) → t < ticks → value_at code t (changes c rows ticks) [] ≡ value s t
   unfolding changes start_commands
-  all_told ticks at below =
+  all_values ticks at below =
       time_on 0 (Start ∷ ((map (value_of c rows 0) (stretches c) ++ End ∷ []) ++ (later_commands c rows (stretches c) 1 (ticks - 1) ++ Time ticks ∷ []))) [] (omega arith)
-      ∙ ap (λ (cs : List Command). told code t cs []) (append_assoc (map (value_of c rows 0) (stretches c)) (End ∷ []) (later_commands c rows (stretches c) 1 (ticks - 1) ++ Time ticks ∷ []))
+      ∙ ap (λ (cs : List Command). value_at code t cs []) (append_assoc (map (value_of c rows 0) (stretches c)) (End ∷ []) (later_commands c rows (stretches c) 1 (ticks - 1) ++ Time ticks ∷ []))
       ∙ found_all 0 (End ∷ (later_commands c rows (stretches c) 1 (ticks - 1) ++ Time ticks ∷ [])) (stretches c) at.place at.default [] at.below at.is at.only
       ∙ ticks_on (ticks - 1) 1 ticks (stretches c) at (omega arith) (omega arith) below
 
@@ -257,4 +257,4 @@ only_one c k d known below j e under same =
 
 pub bits_come_back : BitsComeBack
 bits_come_back c rows ticks t k d known here below =
-    all_told c rows (get_or (stretches c) k d) t ticks (record { place = k; default = d; below = below; is = refl; only = only_one c k d known below }) here
+    all_values c rows (get_or (stretches c) k d) t ticks (record { place = k; default = d; below = below; is = refl; only = only_one c k d known below }) here

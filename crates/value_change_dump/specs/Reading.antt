@@ -52,19 +52,19 @@ CommandsComeBack =
 -- ---- from commands to bits
 
 -- the value of the variable of a code at a time, after commands that gave it the last one
-abbrev pub told : List ℕ → ℕ → List Command → List Bool → List Bool
-told code t [] last = last
-told code t (Time u ∷ cs) last = if nat_le u t then told code t cs last else last
-told code t (Start ∷ cs) last = told code t cs last
-told code t (End ∷ cs) last = told code t cs last
-told code t (Value k bits ∷ cs) last = told code t cs (if bytes_eq k code then bits else last)
+abbrev pub value_at : List ℕ → ℕ → List Command → List Bool → List Bool
+value_at code t [] last = last
+value_at code t (Time u ∷ cs) last = if nat_le u t then value_at code t cs last else last
+value_at code t (Start ∷ cs) last = value_at code t cs last
+value_at code t (End ∷ cs) last = value_at code t cs last
+value_at code t (Value k bits ∷ cs) last = value_at code t cs (if bytes_eq k code then bits else last)
 
 -- Every bit comes back from its commands: of each stretch at each tick of a run.
 abbrev pub BitsComeBack : Type 0
 BitsComeBack =
     (c : Circuit) (rows : List (List Bool)) (ticks t k : ℕ) (d : Stretch) → IsCircuit c →
     t < ticks → k < length (stretches c) →
-    told (code_of (slice_index_or (stretches c) k d).number) t (changes c rows ticks) []
+    value_at (code_of (slice_index_or (stretches c) k d).number) t (changes c rows ticks) []
     ≡ levels c rows t (slice_index_or (stretches c) k d).from
     ((slice_index_or (stretches c) k d).to - (slice_index_or (stretches c) k d).from)
 
