@@ -1,6 +1,5 @@
 -- The names of a text in its order, and the first of them that is refused.
-use Rattle.std.specs.Prelude.{◌≡◌, ◌==◌, ◌||◌, Bool, true, false, List, [], ◌∷◌, ◌++◌, ℕ, ⊤}
-use Rattle.std.specs.Char.{is_ascii_alphanumeric}
+use Rattle.std.specs.Prelude.{◌≡◌, Bool, true, false, List, [], ◌∷◌, ◌++◌, ℕ, ⊤}
 use Rattle.scald_base.specs.Time.{Header}
 use Rattle.scald_base.specs.Fitting.{IntervalsFit, EdgesOverlap as Overlap, Fits}
 use Rattle.scald_base.specs.declared.assertion.AssertSpec.TheVariants.{None as Unasserted}
@@ -31,10 +30,6 @@ named text of_formal place = record { text = text; of_formal = of_formal; place 
 
 abbrev pub naming : Bool → Lexeme → Naming
 naming of_formal t = named (unquoted t.text) of_formal t.place
-
--- a byte that may stand anywhere in a base: none of a base's but the space
-abbrev pub is_inner : ℕ → Bool
-is_inner b = is_ascii_alphanumeric b || (b == 95 || (b == 35 || b == 36))
 
 -- ---- the names of what is written
 
