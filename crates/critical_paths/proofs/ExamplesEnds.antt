@@ -31,7 +31,7 @@ by net direction slot pin delay word =
 abbrev path : List Link → Event → Path
 path links last = record { links = links; last = last; end = Source }
 
--- ---- a tree of 2 to 4 ticks, behind a clock that comes up to one tick early or late as a whole
+-- ---- a tree of 2 to 4 ticks, after a clock that comes up to one tick early or late as a whole
 
 abbrev tree : Circuit
 tree = circuit (input (clock 0 8 (1, 1)) ∷ driven 0 ∷ [])

@@ -58,7 +58,7 @@ no_clock = refl
 
 -- ---- launches
 
--- a tree of 2 to 4 ticks, and a register of 1 to 2 behind it
+-- a tree of 2 to 4 ticks, and a register of 1 to 2 after it
 abbrev tree : Circuit
 tree =
     circuit (input (clock 0 8 (1, 1)) ∷ driven 0 ∷ input (Stable []) ∷ driven 1 ∷ [])

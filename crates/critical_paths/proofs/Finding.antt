@@ -77,7 +77,7 @@ module _ (test : Test) (cells : List Value) (long : 2 ≤ length cells) where
       by true is said = absurd (cc)
       by false is said = ap (λ (t : ℕ). passes test (cell_round values cells t)) (sym at) ∙ is
 
-  -- no region begins where a slot fails, or behind one that passes
+  -- no region begins where a slot fails, or after one that passes
   pub first_fails : (slot : ℕ) → ev slot ≡ false → is_first p ev slot ≡ false
   first_fails slot is = ap (λ (b : Bool). b && not (ev (slot + (p - 1)))) is
 

@@ -29,12 +29,12 @@ nodes_more nodes more (suc k) i long = by (slice_get nodes i) refl long
         (get_more nodes more i n is)
         ∙ ap (λ (l : List Node). n ∷ l) (same n.next (omega (arith, long)))
 
--- what lies behind a node stays
+-- what lies after a node stays
 pub rest_more : (nodes more : List Node) (n : Node) → n.count ≡ 1 + length (rest_of nodes n) →
     rest_of (nodes ++ more) n ≡ rest_of nodes n
 rest_more nodes more n long = nodes_more nodes more (n.count - 1) n.next (omega arith)
 
--- a node before another has that and what lies behind it
+-- a node before another has that and what lies after it
 pub rest_before : (nodes : List Node) (n m : Node) → slice_get nodes n.next ≡ Some m → n.count
     ≡ m.count + 1 →
     m.count ≡ 1 + length (rest_of nodes m) → rest_of nodes n ≡ m ∷ rest_of nodes m

@@ -1,5 +1,5 @@
 -- Arrivals: of each edge of an input, the last tick at which a net may change by it, or the first,
--- whatever else its drivers' pins do. They tell launches apart where the wave of a net does not.
+-- whatever else its drivers' pins do. They tell launches apart even if the wave of a net does not.
 use Rattle.std.specs.Prelude.{ℕ, zero, suc, ◌+◌, ◌==◌, nat_lt, Bool, ◌&&◌, List, [], ◌∷◌, ◌++◌, fold as fold_all, length, map, filter, slice_get, ℤ, pos, ◌-ℤ◌, if◌then◌else◌, unwrap_or, Option, Some, None}
 use Rattle.std.specs.List.{range_with_len}
 use Rattle.std.specs.Option.{option_map}

@@ -89,7 +89,7 @@ abbrev pub last_on : Node → List Node → Stop
 last_on n [] = n.stop
 last_on n (m ∷ more) = last_on m more
 
--- the nodes behind a node, on its path
+-- the nodes after a node, on its path
 abbrev pub rest_of : List Node → Node → List Node
 rest_of nodes n = nodes_on nodes (n.count - 1) n.next
 
@@ -285,7 +285,7 @@ round_node chain again base ticks place e =
       age = ticks;
     }
 
--- the nodes of the places from one up to another, behind others
+-- the nodes of the places from one up to another, after others
 pub record IsRound (old : List Node) (chain : List (Stop × Passage)) (again past : ℕ) (ticks : ℤ)
     (new : List Node) : Type 0 where
   pub long : length new ≡ length old + (past - again)
@@ -294,7 +294,7 @@ pub record IsRound (old : List Node) (chain : List (Stop × Passage)) (again pas
       slice_get new (length old + (k - again))
       ≡ Some (round_node chain again (length old) ticks k e)
 
--- the numbers of the places from one up to another, behind others
+-- the numbers of the places from one up to another, after others
 -- the stop is at a place from one up to another
 abbrev pub IsAmong : List (Stop × Passage) → ℕ → ℕ → Stop → Type 0
 IsAmong chain again past q =

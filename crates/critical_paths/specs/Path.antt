@@ -33,8 +33,8 @@ pub record Link : Type 0 where
   pub event : Event
   pub passage : Passage
 
--- A path ends where nothing drives the net, where the event stands in an earlier link, or where no
--- pin causes it: two levels meet, or set and reset are both there.
+-- A path ends if nothing drives the net, if the event stands in an earlier link, or if no pin
+-- causes it: two levels meet, or set and reset are both there.
 pub data End : Type 0 where
   Source : End
   Loop : End

@@ -137,7 +137,7 @@ pub record IsFirstOf (ideal : ℤ) (some : List Reached) (at : ℕ) (a : Reached
   pub before : (k : ℕ) (b : Reached) → k < at → slice_get some k ≡ Some b →
       int_eq b.near.ideal ideal ≡ false
 
--- ---- behind pins
+-- ---- after pins
 
 -- the place behind a pin, and by what the steps come from there
 abbrev pub behind_net : Circuit → Instance → Place → ℕ → Pin → Target → Option (Place × Passage)
@@ -199,7 +199,7 @@ AddsThrough c ws place (Some behind) old new =
     (some : List (ℤ × ℤ)) × (AreArrivals c ws behind.0 some
     × (new ≡ fold (with_later c ws place behind.1) old some))
 
--- what a pin adds, of ways of at most so many elements to the net behind it
+-- what a pin adds, of ways of at most so many elements to the net after it
 abbrev pub through_of : Circuit → Waves → Instance → Place → ℕ → ℕ → Option (List Arrival)
 through_of c ws j place most i =
     through_pin c place.corner j (turned j.out_inverted place.direction)

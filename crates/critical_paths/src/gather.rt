@@ -257,7 +257,7 @@ impl Paths {
         Ok(true)
     }
 
-    /// Adds those that come through a pin, if there is a place behind it; `false` if that is not
+    /// Adds those that come through a pin, if there is a place after it; `false` if that is not
     /// worked out, or a way is longer than any can be.
     fn add_through<W: CyclicWave<Item = Value>>(
         &self,
@@ -284,7 +284,7 @@ impl Paths {
     }
 
     /// Adds those that come through each pin of the driver of a place's net; `false` if a place
-    /// behind them is not worked out, or a way is longer than any can be.
+    /// after them is not worked out, or a way is longer than any can be.
     fn add_pins<W: CyclicWave<Item = Value>>(
         &self,
         view: &View<W>,

@@ -7,7 +7,7 @@ ghost use Rattle.critical_paths.specs.Known.{IsNear};
 use crate::arrival::Arrival;
 
 /// More ticks than any way takes on which no net comes twice: there are at most 65,536 nets, and
-/// none of them is more than 8,190 ticks behind the one before.
+/// none of them is more than 8,190 ticks after the one before.
 const FAR: u64 = 0x4000_0000_0000;
 
 /// When an edge comes to a net, if by a way that is not too long: the tick of the ideal edge, that

@@ -39,7 +39,7 @@ HasLevel xs i subject StableTo = StandsAt xs i subject 2 Assert
 abbrev pub HaveLevels : List Parameter → Type 0
 HaveLevels xs = (i : ℕ) (q : Parameter) → slice_get xs i ≡ Some q → HasLevel xs i q.subject q.word
 
--- ---- lists behind each other
+-- ---- lists one after another
 
 pub read_at : {A : Type 0} (xs : List A) (i : ℕ) (d : A) → i < length xs → slice_get xs i ≡ Some (slice_index_or xs i d)
 read_at [] i d within = absurd (omega (arith, within))

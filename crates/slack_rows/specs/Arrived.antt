@@ -73,11 +73,11 @@ tick_of p r tick =
 abbrev pub moved : Arrived → ℤ → Arrived
 moved a tick = record { ideal = a.ideal; tick = tick; node = a.node }
 
--- at a net, behind a wire
+-- at a net, after a wire
 abbrev pub behind_wire : ℕ → Arrived → Arrived
 behind_wire wire a = moved a (a.tick +ℤ pos wire)
 
--- where it is launched on the side of an edge that counts
+-- if it is launched on the side of an edge that counts
 abbrev pub moved_if : Corner → ℤ → Arrived → ℤ → Option Arrived
 moved_if corner edge a tick =
     if counts_launch corner (int_lt (a.ideal +ℤ (tick -ℤ a.tick)) edge) then Some (moved a tick)
@@ -93,7 +93,7 @@ further_of corner None (Some new) = Some new
 further_of corner (Some old) (Some new) =
     if is_further corner new.tick old.tick then Some new else Some old
 
--- of arrivals at a net the one that counts in a region of a pin, behind a wire
+-- of arrivals at a net the one that counts in a region of a pin, after a wire
 abbrev pub furthest_in : ℕ → ℕ → Ticked → Corner → ℤ → List Arrived → Option Arrived
 furthest_in p wire r corner edge arrivals =
     fold (λ best a. further_of corner best (moved_into p r corner edge (behind_wire wire a))) None

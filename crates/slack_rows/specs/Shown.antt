@@ -60,7 +60,7 @@ ShowAt (OfNet number) word found changes clock =
 
 -- ---- of which steps
 
--- it is the path of a step of a pin, where the waves permit one
+-- it is the path of a step of a pin, if the waves permit one
 abbrev pub IsPathOf : Circuit → Waves → List Node → PinEvent → Option At → Type 0
 IsPathOf c ws nodes e found =
     option_map (path_at nodes) found

@@ -79,9 +79,9 @@ is_above a b = broken_first is_lower a b
 
 -- ---- the two changes of a window
 
--- What launches say of the changes in a window: of which side those of a region are, and where two
+-- What launches say of the changes in a window: of which side those of a region are, and, if two
 -- launches meet in one region, the last change of the first and the first change of the second.
--- Where a change may come in every slot they may give the slack of the longest way before the edge,
+-- If a change may come in every slot they may give the slack of the longest way before the edge,
 -- and that of the shortest after it.
 pub record Launches : Type 0 where
   pub side : Window → Region → Side

@@ -206,7 +206,7 @@ fn arrival_in<W: CyclicWave<Item = Value>>(
     }
 }
 
-/// An arrival behind the wire to a pin.
+/// An arrival after the wire to a pin.
 pub fn at_pin<W: CyclicWave<Item = Value>>(
     view: &View<W>,
     held: Held,
