@@ -16,7 +16,7 @@ use Rattle.assertion_syntax.proofs.Parts.{clock_takes, clock_again, stable_takes
 
 -- ---- an assertion
 
--- what stands behind a base
+-- what stands after a base
 abbrev precision_dot : List ℕ
 precision_dot = codes " .P"
 

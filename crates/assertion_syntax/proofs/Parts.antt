@@ -75,7 +75,7 @@ span_long s is =
     let long = decimal_nonempty s.lo (omega arith) in
     omega (arith, length-append (decimal s.lo ++ codes "-") (decimal s.hi), length-append (decimal s.lo) (codes "-"))
 
--- what stands behind an interval is shorter
+-- what stands after an interval is shorter
 pub span_shorter : (rest : List ℕ) (x : Span × List ℕ) → span_at rest ≡ Some x → length x.1 < length rest
 span_shorter rest x e =
     let is = span_takes rest x e in
@@ -240,7 +240,7 @@ unfolding literal_at
 low_opens true = refl
 low_opens false = refl
 
--- what stands behind a clock's intervals
+-- what stands after a clock's intervals
 abbrev edges_text : Option (ℕ × ℕ) → Bool → List ℕ
 edges_text skew low = skew_text skew ++ low_text low
 

@@ -5,7 +5,7 @@ use Rattle.scald_base.specs.declared.assertion.Span.{Span}
 use Rattle.assertion_syntax.specs.Reading.{◌>>=◌, literal_at, span_at, spans_at}
 use Rattle.assertion_syntax.proofs.Parts.{span_shorter, literal_shorter}
 
--- what is read, behind the intervals that were read before
+-- what is read, after the intervals that were read before
 abbrev pub behind : List Span → Option (List Span × List ℕ) → Option (List Span × List ℕ)
 behind before read = read >>= λ x. Some (before ++ x.0, x.1)
 

@@ -27,7 +27,7 @@ use Rattle.case_analysis.specs.Case.{NetsExist, is_set}
 use Rattle.case_analysis.proofs.Entries.{none_past}
 use Rattle.case_analysis.specs.Listed.{is_free, bit_of, bits_of, AreOnce, none, one_more, IsListed, AreNamed, IsJudged, MaySet, IsCaseOf, IsCaseStop, AreCases, AreCasesOf, AreCasesStop, AreNoCases}
 
--- ---- values behind others
+-- ---- values after others
 
 set_push : (vs : List CaseValue) (v : CaseValue) (i : ℕ) → is_set (vs ++ v ∷ []) i ≡ (is_set vs i || (v.net == i))
 set_push [] v i = or-false (v.net == i)

@@ -30,8 +30,8 @@ fn first_same(
     Ok(None)
 }
 
-/// Of each case the first before it that has its entries. Its nets are below this number. `NoMemory`
-/// comes if memory runs out.
+/// Of each case the first before it that has its entries. Its nets are below this number.
+/// `NoMemory` comes if memory runs out.
 pub fn firsts_same(alloc: Global, nets: u32, cases: &[Case]) -> Result<Vec<Option<usize>>, NoMemory>
     requires { AreWithin nets cases.now }
     ensures { IfOk result (λ firsts. firsts.items ≡ spec_firsts_same cases.now) }

@@ -1,4 +1,4 @@
--- Sections behind one another, and how long they are.
+-- Sections, one after another, and how long they are.
 use Rattle.std.proofs.Common.{◌≡◌, ℕ, zero, suc, ◌+◌, ◌*◌, ◌-◌, ◌<◌, ◌≤◌, List, [], ◌∷◌, ◌++◌, length, codes, decimal, map, append-nil, length-append, Bool, true, false, ◌==◌, refl, ap, ◌∙◌, arith}
 use Rattle.std.specs.Prelude.{if◌then◌else◌}
 use Rattle.std.specs.List.{concat, range_with_len}
@@ -8,7 +8,7 @@ use Rattle.std.proofs.lemmas.List.FromFn.{map-range_with_len_more}
 use Rattle.design_gen.specs.Text.{line}
 use Rattle.design_gen.specs.Datapath.{head, assertion, change_line, checker_line, register_line, section, datapath}
 
--- one section more, behind those before it
+-- one section more, after those before it
 pub section_more : (n : ℕ) → concat (map section (range_with_len 1 (n + 1))) ≡ concat (map section (range_with_len 1 n)) ++ section (n + 1)
 section_more n =
     ap concat (map-range_with_len_more section 1 n (n + 1) (omega arith))

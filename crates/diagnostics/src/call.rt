@@ -28,7 +28,7 @@ enum Next {
     Case(Bounds),
 }
 
-/// The numbers that stand behind a word.
+/// The numbers that stand after a word.
 const NUMBERED: [(&[u8], Bounds); 3] = [
     (b"rounds=", Bounds(b"N", 1, 10_000_000)),
     (b"worst=", Bounds(b"N", 1, 65_536)),

@@ -14,6 +14,7 @@ pub const STATEMENTS: [Row; 6] = [
     (&[b"WHEN", b"SWITCH"], WHEN),
 ];
 
+/// What is said where a statement has no label.
 pub const LABEL: &[u8] =
     b"a label and a colon come first, as in b1 : BUF [0:5] (\"A\") -> (\"X\");";
 

@@ -104,11 +104,12 @@ impl<'a> Text<'a> {
         self.tokens.get(i).copied().unwrap_or(END)
     }
 
-    /// Where it stands, as a place and as a part of a line.
+    /// The place where it stands.
     pub fn place(&self, i: usize) -> Place {
         self.token(i).place
     }
 
+    /// Its place, as a part of a line.
     pub fn at(&self, i: usize) -> Part<'a> {
         Part::At(self.token(i).place)
     }
@@ -118,20 +119,22 @@ impl<'a> Text<'a> {
         word_of(self.bytes, self.token(i))
     }
 
-    /// The same as a part of a line, without quotes and in quotes.
+    /// How it is written, as a part of a line without quotes.
     pub fn shown(&self, i: usize) -> Part<'a> {
         Part::Shown(self.word(i))
     }
 
+    /// How it is written, as a part of a line in quotes.
     pub fn quoted(&self, i: usize) -> Part<'a> {
         Part::Quoted(self.word(i))
     }
 
-    /// Whether it is written so, or in one of these ways.
+    /// Whether it is written so.
     pub fn is(&self, i: usize, word: &[u8]) -> bool {
         word_of(self.bytes, self.token(i)) == word
     }
 
+    /// Whether it is written in one of these ways.
     pub fn is_any(&self, i: usize, words: &[&[u8]]) -> bool {
         words.contains(&self.word(i))
     }

@@ -1,4 +1,4 @@
--- How much a step depends on the token behind the first one: on whether it is a colon, and only if the first is FOR.
+-- How much a step depends on the token after the first one: on whether it is a colon, and only if the first is FOR.
 use Rattle.std.proofs.Common.{◌≡◌, ℕ, ◌<◌, Bool, true, false, not, ◌&&◌, if◌then◌else◌, List, [], ◌∷◌, ◌++◌, Option, Some, None, refl, sym, ap, subst, ◌∙◌, arith}
 use Rattle.std.specs.Prelude.{is_some, ⊤}
 use Rattle.drawing_grammar.specs.declared.edition.Edition.TheVariants.{First, Second}
@@ -182,7 +182,7 @@ some_alike (g.Statement Second) t ts zs = loop_or_use t (no_colon ts) ∙ sym (l
 some_alike (g.Statement First) t ts zs = refl
 some_alike _ t ts zs = refl
 
--- Whether a token begins what is needed does not depend on what stands behind it.
+-- Whether a token begins what is needed does not depend on what stands after it.
 pub stuck_alike : (needs : List Need) (a : ℕ) (t : Lexeme) (ts zs : List Lexeme) →
     is_stuck (step needs a t ts) ≡ is_stuck (step needs a t zs)
 stuck_alike [] a t ts zs = refl
@@ -208,7 +208,7 @@ forces_not_stuck : {needs : List Need} (w : Written needs) (a : ℕ) (zs : List 
 forces_not_stuck w a zs (Next later b m build) f = refl
 forces_not_stuck w a zs Stuck f = absurd f
 
--- A token that something written begins with is not stuck, whatever stands behind it.
+-- A token that something written begins with is not stuck, whatever stands after it.
 pub not_stuck : {needs : List Need} (w : Written needs) (a : ℕ) (t : Lexeme) (ts zs : List Lexeme) → Chained needs →
     spelling w ≡ t ∷ zs → is_stuck (step needs a t ts) ≡ false
 not_stuck {needs} w a t ts zs c e =
@@ -269,7 +269,7 @@ heavy {needs} w a t ts zs c e far unlabelled = one (is_keyword For t) refl (no_c
         (label_is_light needs a t zs (keyword_is For t h).0 i) own)
     one true h false f d i = absurd (unlabelled (label_behind t ts (keyword_is For t h).0 f))
 
--- the head of what stands behind a token is the same, whatever follows the token at which both go on
+-- the head of what stands after a token is the same, whatever follows the token at which both go on
 pub same_head : (before : List Lexeme) (t : Lexeme) (xs ys : List Lexeme) →
     no_colon (before ++ t ∷ xs) ≡ no_colon (before ++ t ∷ ys)
 same_head [] t xs ys = refl

@@ -79,7 +79,7 @@ close_brace = symbol 125
 abbrev pub arrow : List Bare
 arrow = (record { kind = Arrow; text = codes "->" }) ∷ []
 
--- behind the last byte
+-- after the last byte
 abbrev pub end_of_text : List Bare
 end_of_text = (record { kind = End; text = [] }) ∷ []
 

@@ -32,7 +32,7 @@ begins_part {p} c t e = ap (λ (l : Terminal). is_some (choice p l)) (opens_so c
 
 -- ---- the choice that is taken
 
--- What the token behind the first one says, if a part may begin with the same token in two ways: it is no colon.
+-- What the token after the first one says, if a part may begin with the same token in two ways: it is no colon.
 abbrev pub Behind : {p : Part} → Choice p → Bool → Type 0
 Behind g.use_ b = b ≡ false
 Behind g.for_ b = b ≡ true
@@ -49,7 +49,7 @@ pub no_loop : (a b : Bool) → b ≡ false → (a && b) ≡ false
 no_loop true b e = e
 no_loop false b e = refl
 
--- A choice is taken if a token that may begin it stands first, and the one behind it says so.
+-- A choice is taken if a token that may begin it stands first, and the one after it says so.
 pub takes : {p : Part} (c : Choice p) (t : Lexeme) (ts : List Lexeme) → MayOpen c t → Behind c (no_colon ts) →
     choice_at p t ts ≡ Some c
 takes g.constant t ts e b = ap (λ (k : Bool). if k then Some g.constant else None) (is_that_keyword Const t e)
@@ -205,7 +205,7 @@ opens_with g.PrecisionSkew t ts c e = by_terminal g.PrecisionSkew (terminal t) t
 opens_with g.ClockSkew t ts c e = by_terminal g.ClockSkew (terminal t) t c refl refl e
 opens_with (g.Text v) t ts c e = by_terminal (g.Text v) (terminal t) t c refl refl e
 
--- ---- how much the token behind the first one matters
+-- ---- how much the token after the first one matters
 
 -- It matters only whether it is a colon.
 pub same_choice : (p : Part) (t : Lexeme) (ts zs : List Lexeme) → no_colon ts ≡ no_colon zs →
@@ -294,7 +294,7 @@ still_some _ t us k e = e
 
 -- ---- where a word of its own stands first
 
--- A word with a colon behind it is no FOR.
+-- A word with a colon after it is no FOR.
 pub no_loop_at : (v : Edition) (t : Lexeme) (us : List Lexeme) → no_colon us ≡ false → at_loop v (t ∷ us) ≡ false
 no_loop_at First t us e = refl
 no_loop_at Second t us e = no_loop (is_keyword For t) (no_colon us) e

@@ -1,4 +1,4 @@
--- Cutting a text into tokens from its front, and texts that are cut alike whatever stands behind them.
+-- Cutting a text into tokens from its front, and texts that are cut alike whatever stands after them.
 use Rattle.std.proofs.Common.{◌≡◌, ℕ, Bool, true, false, not, List, [], ◌∷◌, ◌++◌, length, take, drop, Some, refl, sym, ap, subst, ◌∙◌, append_assoc}
 use Rattle.std.specs.List.{list_all}
 use Rattle.std.proofs.lemmas.List.Folds.{list_all-append}
@@ -62,7 +62,7 @@ lexes_one text rest kind h = record {
   are = ap (λ (t : List ℕ). (let b : Bare = record { kind = kind; text = t } in b) ∷ []) (take-append_seam text rest);
 }
 
--- ---- what may stand behind
+-- ---- what may follow
 
 -- No word and no number goes on here.
 abbrev pub stops : List ℕ → Bool
@@ -84,12 +84,12 @@ breaks_on (b ∷ bs) rest h = h
 
 -- ---- texts that are these tokens
 
--- Whatever stands behind, if no word goes on there.
+-- Whatever follows, if no word goes on there.
 pub record Spells (s : List ℕ) (ts : List Bare) : Type 0 where
   pub allowed : list_all is_allowed s ≡ true
   pub lexes : (rest : List ℕ) → stops rest ≡ true → Lexes (s ++ rest) ts rest
 
--- Whatever stands behind.
+-- Whatever follows.
 pub record Closes (s : List ℕ) (ts : List Bare) : Type 0 where
   pub allowed : list_all is_allowed s ≡ true
   pub lexes : (rest : List ℕ) → Lexes (s ++ rest) ts rest

@@ -31,7 +31,7 @@ inner (fresh ∷ rest) = inner rest
 inner (part p n ∷ rest) = not (is_whole p) && inner rest
 inner (group h n ∷ rest) = inner rest
 
--- behind the end nothing is needed
+-- after the end nothing is needed
 abbrev pub Tidy : List Need → Type 0
 Tidy [] = Unit {0}
 Tidy (mark l ∷ rest) = (is_end l ≡ true → rest ≡ []) × Tidy rest

@@ -66,7 +66,7 @@ extends_group g.Cases = is.Case ∷ []
 abbrev pub among : List Terminal → Terminal → Bool
 among ls l = list_any (λ k. same l k) ls
 
--- whether a token can begin what is written, if f tells what can begin what comes behind
+-- whether a token can begin what is written, if f tells what can begin what comes after
 abbrev pub starts : List Need → (Terminal → Bool) → Terminal → Bool
 starts [] f l = f l
 starts (mark k ∷ rest) f l = same l k
@@ -80,7 +80,7 @@ starts (group h n ∷ rest) f l = is_some (choice (lead h) l) || (is_some (absen
 abbrev pub apart : List Terminal → List Need → List Terminal → Bool
 apart ls rest behind = at_each (λ l. if starts rest (λ k. not (among behind k)) l then not (among ls l) else true)
 
--- No part is followed by what it would go on with, if what comes behind begins with none of these.
+-- No part is followed by what it would go on with, if what comes after begins with none of these.
 abbrev pub well_chained : List Need → List Terminal → Bool
 well_chained [] behind = true
 well_chained (mark k ∷ rest) behind = well_chained rest behind

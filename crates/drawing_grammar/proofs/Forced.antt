@@ -93,7 +93,7 @@ apart_at ls rest behind e l s = one (starts rest (λ k. not (among behind k)) l)
     one true false e s = refl
     one false b e s = absurd cc
 
--- a need's part is apart from what comes behind it, also where the list goes on
+-- a need's part is apart from what comes after it, also where the list goes on
 apart_on : (ls : List Terminal) (xs rest : List Need) (behind : List Terminal) → apart ls xs behind ≡ true →
     ((l : Terminal) → starts rest never l ≡ true → among behind l ≡ false) → (l : Terminal) → starts (xs ++ rest) never l ≡ true → among ls l ≡ false
 apart_on ls xs rest behind e h l s =
@@ -277,7 +277,7 @@ taken_first {p} c n rest u h w t ts zs k i alike =
     ∙ (same_choice p u ts (spelling w) (sym alike ∙ sym (ap no_colon i))
     ∙ takes c u (spelling w) h (behind_says c n rest w))
 
--- What is written and begins with a token is what the step of that token says, if the tokens behind it are alike
+-- What is written and begins with a token is what the step of that token says, if the tokens after it are alike
 -- in so far as the step looks at them.
 pub forced : {needs : List Need} (w : Written needs) (a : ℕ) (t : Lexeme) (ts zs : List Lexeme) →
     no_colon zs ≡ no_colon ts → Chained needs → spelling w ≡ t ∷ zs → Forces w a zs (step needs a t ts)

@@ -1,4 +1,4 @@
--- Names that are good, some behind others.
+-- Names that are good, some after others.
 use Rattle.std.proofs.Common.{List, [], ◌∷◌, ◌++◌}
 use Rattle.scald_base.specs.Time.{Header}
 use Rattle.drawing_grammar.specs.Names.{Naming, AreGood}

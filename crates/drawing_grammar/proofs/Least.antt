@@ -280,7 +280,7 @@ group_needs (g.Statements v) n rest w e = absurd cc
 group_needs (g.Macros v) n rest w e = absurd cc
 group_needs g.Cases n rest w e = absurd cc
 
--- what needs more behind needs more
+-- what needs more later needs more
 part_more : (p : Part) (n : ℕ) (rest : List Need) (o : Option (Meaning p)) → absent_value p ≡ o →
     (x : Verdict rest) → (IsRefused x → NeedsMore rest) → IsRefused (finish_part {p = p} {n = n} o x) → NeedsMore (part p n ∷ rest)
 part_more p n rest None e x h r = part_needs p n rest (least rest) e

@@ -168,7 +168,7 @@ minus_before (b ∷ bs) ts is h = record {
 
 -- ---- words with the spaces around them
 
--- a word of letters, with a space behind it
+-- a word of letters, with a space after it
 spaced : (s : List ℕ) → list_all is_allowed (s ++ 32 ∷ []) ≡ true →
     ((rest : List ℕ) → Cuts ((s ++ 32 ∷ []) ++ rest) (Lexeme Word (length s) ∷ Space ∷ []) rest) →
     ((rest : List ℕ) → bares ((s ++ 32 ∷ []) ++ rest) (Lexeme Word (length s) ∷ Space ∷ []) ≡ word s) → Closes (s ++ 32 ∷ []) (word s)

@@ -1,4 +1,4 @@
--- The steps of a reader, over plain lists: what the tokens give of the needs before a step and of those behind it.
+-- The steps of a reader, over plain lists: what the tokens give of the needs before a step and of those after it.
 use Rattle.std.proofs.Common.{◌≡◌, ◌≢◌, ℕ, ◌≤◌, ◌<◌, Bool, true, false, ◌&&◌, List, [], ◌∷◌, ◌++◌, Option, Some, None, if◌then◌else◌, refl, sym, ap, ◌∙◌}
 use Rattle.std.specs.Prelude.{nat_le, is_some}
 use Rattle.std.specs.Str.{bytes_eq}

@@ -90,7 +90,7 @@ macros_held v (m ∷ ms) is more rest none b =
 
 -- ---- the whole drawing
 
--- what a text needs behind its header
+-- what a text needs after its header
 abbrev behind_header : Edition → List Need
 behind_header v = g.constants v (g.from_macros v)
 
@@ -102,7 +102,7 @@ unfolding word_terminal
 take_scald First bs b = (take_choice (g.text {v = First}) 0 (bare_word (codes "SCALD")) bs [] refl b).left
 take_scald Second bs b = (take_choice (g.text {v = Second}) 0 (bare_word (codes "SCALD")) bs [] refl b).left
 
--- two numbers behind the first token of a statement of the header
+-- two numbers after the first token of a statement of the header
 pair_held : (a b : ℕ) (more : List Bare) (rest : List Need) →
     LeftOver (leaf.number a ∷ bare_symbol 58 ∷ leaf.number b ∷ bare_symbol 59 ∷ more)
     (g.bounds [] ++ rest) → LeftOver more rest
@@ -206,7 +206,7 @@ text_constants_held First [] is none more rest e b = record { holds = tt; left =
 text_constants_held First (c ∷ cs) is none more rest e b = let k = none refl in absurd cc
 text_constants_held Second cs is none more rest e b = constants_held cs is more rest e b
 
--- What stands behind the constants begins none.
+-- What stands after the constants begins none.
 no_constant_there : (ms : List tree.Macro) (more : List Bare) → choice g.Constant (first_of more) ≡ None →
     choice g.Constant (first_of (flat_map macro_tokens ms ++ more)) ≡ None
 unfolding word_terminal

@@ -319,7 +319,7 @@ compared_unequal b bs more s = record {
       (group Sum n ∷ rest) refl o.left);
 }
 
--- with an equals sign behind it, or without
+-- with an equals sign after it, or without
 or_equal : (bs : List Bare) (n : ℕ) (rest : List Need) →
     LeftOver (bare_symbol 61 ∷ bs) (part OrEqual n ∷ rest) → LeftOver bs rest
 unfolding symbol_terminal

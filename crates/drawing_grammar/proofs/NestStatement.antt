@@ -190,7 +190,7 @@ wire_held v w is n more rest b =
 free_label : (u : tree.UseStatement) → IsDrawnUse u → word_terminal u.label ≡ token.Word
 free_label u is = free_word u.label is.label.is_free
 
--- What stands behind the statements of an IF begins none.
+-- What stands after the statements of an IF begins none.
 ends_statements : (v : Edition) (o : tree.Otherwise) (more : List Bare) →
     choice (g.Statement v) (first_of more) ≡ None →
     choice (g.Statement v) (first_of (else_tokens o ++ more)) ≡ None

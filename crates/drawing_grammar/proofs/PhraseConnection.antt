@@ -41,7 +41,7 @@ IsShortItem (tree.Named n range) = IsName n × IfSome range IsShortRange
 
 -- ---- what is built
 
--- The tokens are within the limits wherever what stands behind them is.
+-- The tokens are within the limits wherever what stands after them is.
 pub record PartBuilt (p : Part) (good : Meaning p → Type 0) (ts : List Lexeme) (rest : List Need) (w : Written rest) : Type 0 where
   pub written : Written (part p 0 ∷ rest)
   pub spelled : spelling written ≡ ts ++ spelling w
@@ -140,7 +140,7 @@ named_stands n range m other e f = rw (e, f) refl
 term_stands : (complemented : Bool) (item other : tree.Item) → item ≡ other → (let x : tree.Term = record { minus = complemented; item = item } in x) ≡ record { minus = complemented; item = other }
 term_stands complemented item other e = rw e refl
 
--- a name and its range, behind whatever begins with the name
+-- a name and its range, after whatever begins with the name
 name_range : (n : SignalName) (range : Option tree.Range) → IsShortItem (tree.Named n range) →
     (p : Part) (good : Meaning p → Type 0) (ts : List Lexeme) → Are ts (signal_tokens n range) → (rest : List Need) (w : Written rest) →
     ((t : Lexeme) → terminal t ≡ NameTerminal → signal_of t ≡ n → (r : Written (part Range 0 ∷ rest)) → (values r).0 ≡ range →

@@ -143,7 +143,7 @@ more_connections (c ∷ cs) is ts are rest w =
       fits = λ f a. (omega arith, b.fits (λ d. m.fits f d) a);
     }
 
--- the first one and those behind it, whatever group they make
+-- the first one and those after it, whatever group they make
 record ConnectionsBuilt (c : tree.Connection) (cs : List tree.Connection) (ts : List Lexeme) (rest : List Need) (w : Written rest) : Type 0 where
   written : Written (part Term 0 ∷ part MoreTerms 0 ∷ part Hold 0 ∷ part MoreConns 0 ∷ rest)
   spelled : spelling written ≡ ts ++ spelling w

@@ -75,7 +75,7 @@ more_formals (f ∷ xs) is ts are rest w =
       fits = λ h a. (omega arith, b.fits (λ d. m.fits h d) a);
     }
 
--- the first one and those behind it, whatever group they make
+-- the first one and those after it, whatever group they make
 record FormalsBuilt (f : tree.Formal) (xs : List tree.Formal) (ts : List Lexeme) (rest : List Need) (w : Written rest) : Type 0 where
   written : Written (part Formal 0 ∷ part MoreFormals 0 ∷ rest)
   spelled : spelling written ≡ ts ++ spelling w

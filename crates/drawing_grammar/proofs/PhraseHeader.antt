@@ -184,7 +184,7 @@ clock_needs rest = part ClockSkew 0 ∷ rest
 abbrev precision_needs : List Need → List Need
 precision_needs rest = part PrecisionSkew 0 ∷ clock_needs rest
 
--- what stands behind the word SCALD, up to the constants or the macros
+-- what stands after the word SCALD, up to the constants or the macros
 abbrev pub header_needs : List Need → List Need
 header_needs rest =
     item is.Number ∷ mark is.Semicolon ∷ item is.Clock ∷ item is.Number ∷ keyword By ∷ item is.Number ∷ mark is.Semicolon

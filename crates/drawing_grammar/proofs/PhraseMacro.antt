@@ -22,7 +22,7 @@ use Rattle.drawing_grammar.proofs.PhraseParameters.{IsShortAssignment, params_bu
 use Rattle.drawing_grammar.proofs.PhraseStatement.{AreShort, statements_built}
 use Rattle.drawing_grammar.proofs.PhraseFormals.{IsShortFormal, all_formals, formal_outputs_built}
 
--- ---- a body and the END behind it
+-- ---- a body and the END after it
 
 pub record BodyBuilt (edition : Edition) (ss : tree.Statements) (ts : List Lexeme) (rest : List Need) (w : Written rest) : Type 0 where
   pub written : Written (group (Statements edition) 0 ∷ mark End ∷ mark Semicolon ∷ rest)

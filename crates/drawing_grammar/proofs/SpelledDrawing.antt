@@ -25,13 +25,13 @@ use Rattle.drawing_grammar.proofs.Drawable.{IsDrawnAssignment, IsDrawnFormal, Is
 
 -- ---- the header
 
--- a line of a text and the semicolon behind it
+-- a line of a text and the semicolon after it
 ended : (s : List ℕ) (ts : List Bare) → Spells s ts → Closes (line [] (s ++ codes ";")) (ts ++ semicolon)
 ended s ts is =
     line_closes [] (s ++ codes ";") (ts ++ semicolon) nothing_closes
     (closed (s ++ codes ";") (ts ++ semicolon) (then_closed s (codes ";") ts semicolon is semicolon_closes refl))
 
--- two numbers behind a word
+-- two numbers after a word
 pair_spells : (front : List ℕ) (first : List Bare) (a b : ℕ) → Closes front first → a ≤ greatest_number → b ≤ greatest_number → Spells (front ++ pair_text a b) (first ++ pair_tokens a b)
 pair_spells front first a b f h k =
     before front (pair_text a b) first (pair_tokens a b) f

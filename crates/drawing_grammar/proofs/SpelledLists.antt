@@ -53,7 +53,7 @@ unfolding bracketed_if_some
 bracketed_if_some_closes front back first last text tokens f b h [] is = nothing_closes
 bracketed_if_some_closes front back first last text tokens f b h (x ∷ xs) is = bracketed_closes front back first last text tokens f b h (x ∷ xs) is
 
--- texts that are closed, one behind another
+-- texts that are closed, one after another
 pub each_closes : {A : Type 0} (text : A → List ℕ) (tokens : A → List Bare) (xs : List A) → AllByRecursion (λ x. Closes (text x) (tokens x)) xs → Closes (flat_map text xs) (flat_map tokens xs)
 each_closes text tokens [] is = nothing_closes
 each_closes text tokens (x ∷ xs) is = before_closed (text x) (flat_map text xs) (tokens x) (flat_map tokens xs) is.0 (each_closes text tokens xs is.1)

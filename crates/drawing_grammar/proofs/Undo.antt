@@ -1,4 +1,4 @@
--- Each step can be undone: what is written where the later needs are is written behind the token where the needs before are.
+-- Each step can be undone: what is written where the later needs are is written after the token where the needs before are.
 use Rattle.std.proofs.Common.{◌≡◌, ℕ, Bool, true, false, ◌&&◌, List, [], ◌∷◌, Option, Some, None, if◌then◌else◌, refl, ap}
 use Rattle.std.specs.Prelude.{⊤}
 use Rattle.std.specs.Str.{bytes_eq}

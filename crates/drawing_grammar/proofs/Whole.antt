@@ -29,7 +29,7 @@ passes : (needs later : List Need) (m : ℕ) (build : Values later → Values ne
 passes needs later m build x place r h e = ap (λ (b : Bool). if b then given {needs = needs} build x else Refused (refusal TooDeep place))
     (le-leb m limit h) ∙ ap (λ (y : Verdict later). given {needs = needs} build y) e
 
--- what is asked of the tokens behind the first one, if that is within the limits
+-- what is asked of the tokens after the first one, if that is within the limits
 pub record FirstGoes (x : Lexeme) (before : List Lexeme) (t : Lexeme) (after : List Lexeme) (needs : List Need) (a : ℕ)
     (later : List Need) (b m : ℕ) : Type 0 where
   pub room : m ≤ limit
@@ -71,7 +71,7 @@ module _ (x : Lexeme) (before : List Lexeme) (t : Lexeme) (after : List Lexeme) 
         (ws : Written later) → Before needs a x later b m build ws
     back later b m build s = subst (λ (y : Step needs). Undone needs a x y) s (undo needs a x ahead)
 
-    -- the tokens behind the first one begin what is written there
+    -- the tokens after the first one begin what is written there
     front_on : (rest : List Lexeme) (later : List Need) (b m : ℕ) (build : Values later → Values needs) →
         step needs a x ahead ≡ Next later b m build → (fore : List Lexeme) → before ≡ fore → Front before later
     front_on rest later b m build s [] e = record {

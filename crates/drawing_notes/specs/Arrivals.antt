@@ -76,7 +76,7 @@ AreRaisedBy c looped ws old new =
 
 -- ---- at pins
 
--- a rise or a fall of what a pin is on, behind its wire
+-- a rise or a fall of what a pin is on, after its wire
 abbrev pub edge_on : Circuit → (ℕ → Edges) → Bool → Target → Option Arrival
 edge_on c edges before (OnNet net) = option_map (behind_wire c net) (edge_of before (edges net))
 edge_on c edges before (Constant one) = None
@@ -91,7 +91,8 @@ abbrev pub pin_edge : Circuit → Bool → Waves → (ℕ → Edges) → Instanc
 pin_edge c held ws edges j rise place None = None
 pin_edge c held ws edges j rise place (Some p) =
     if is_heard held ws j place p
-    then later (edge_through c edges j rise place p true) (edge_through c edges j rise place p false)
+    then later (edge_through c edges j rise place p true)
+    (edge_through c edges j rise place p false)
     else None
 
 abbrev pub latest_to : Circuit → Bool → Waves → (ℕ → Edges) → Instance → Bool → ℕ → Option Arrival

@@ -50,7 +50,8 @@ launches_to clock None i = false
 launches_to clock (Some j) i = is_clocked_by clock (Some j) && drives_in j.out i
 
 -- the nets that pass something on
-pub record ArePassable (c : Circuit) (looped : ℕ → Bool) (ws : Waves) (set : List Bool) : Type 0 where
+pub record ArePassable (c : Circuit) (looped : ℕ → Bool) (ws : Waves)
+    (set : List Bool) : Type 0 where
   pub each_net : length set ≡ length c.nets
   pub are : (i : ℕ) → marked_in set i ≡ is_passable c looped ws i
 

@@ -111,7 +111,7 @@ fn edge_of(rise: bool, edges: Edges) -> Option<Arrival>
     if rise { edges.rise } else { edges.fall }
 }
 
-/// A rise or a fall of what a pin is on, behind its wire.
+/// A rise or a fall of what a pin is on, after its wire.
 fn edge_on(c: &Circuit, edges: &[Edges], before: bool, target: Target) -> Option<Arrival>
     requires { AreSmall (2 ^ 32) edges.now }
     ensures is { result ≡ spec_edge_on c.now (spec_edges_at edges.now) before target }

@@ -5,7 +5,7 @@
 //! `specs/Report` says which notes there are and in which order, and `specs/Answer` what is
 //! answered to a text. Each kind of note has a file of `specs/` that says which notes of it there
 //! are, in the words of its line, and a call that appends exactly its lines to those of others and
-//! counts them. The kinds that need no waves stand in `drawing_omissions`, with what is found where
+//! counts them. The kinds that need no waves stand in `drawing_omissions`, with what is found as
 //! a drawing is expanded.
 //!
 //! `specs/Paths` says which net leads to which, and `specs/Passing` what passes on a change in a

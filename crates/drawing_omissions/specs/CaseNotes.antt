@@ -39,4 +39,5 @@ open_if is_open = if is_open then open_line ∷ [] else []
 
 -- by their numbers, and then of all of them
 abbrev pub case_notes : List (List CaseValue) → List (List ℕ)
-case_notes cases = flat_map (same_at cases) (range_with_len 0 (length cases)) ++ open_if (is_open cases)
+case_notes cases =
+    flat_map (same_at cases) (range_with_len 0 (length cases)) ++ open_if (is_open cases)

@@ -23,7 +23,7 @@ use scald_base::{Bytes, NoMemory, Place};
 use std::alloc::Global;
 
 /// How much a drawing leaves out, if anybody asks. Nothing is promised of these numbers, which help
-/// a person: what memory does not suffice for is not counted.
+/// a person: what there is no memory for is not counted.
 #[derive(Clone, Copy)]
 pub struct Omissions {
     /// Whether anybody asks.
@@ -130,7 +130,7 @@ fn empty_among(alloc: Global, fors: &[Place], found: &[Finding]) -> Result<usize
     Ok(notes.count())
 }
 
-/// How many FORs of a drawing are reached and have no turn. The expansion is not gone through where
+/// How many FORs of a drawing are reached and have no turn. The expansion is not gone through if
 /// all have a turn at once.
 fn empty_count(alloc: Global, drawing: &Drawing) -> Result<usize, NoMemory>
     requires { IsWellFormed (drawing_of drawing.now) }

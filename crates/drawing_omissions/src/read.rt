@@ -41,7 +41,7 @@ fn mark_instance(read: &mut NetSet, c: &Circuit, number: u32)
     }
 }
 
-/// The nets that some pin is on, of elements and of checkers. `NoMemory` comes where memory runs
+/// The nets that some pin is on, of elements and of checkers. `NoMemory` comes if memory runs
 /// out.
 pub fn read_nets(alloc: Global, c: &Circuit) -> Result<NetSet, NoMemory>
     ensures { IfOk result (AreRead c.now.instances) }

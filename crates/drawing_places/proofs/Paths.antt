@@ -80,7 +80,7 @@ labelled_more scope end below turn slash is =
           ∙ ap (λ (n : ℕ). in_front (take n scope) (labels (unturned (drop n scope)))) (sym next);
     }
 
--- The label has ended, and what a FOR puts behind it is passed up to a slash.
+-- The label has ended, and what a FOR puts after it is passed up to a slash.
 pub record IsPassed (scope : List ℕ) (end slash : ℕ) : Type 0 where
   pub are : labels (unturned scope) ≡ in_front (take end scope) (labels (after_turn (drop slash scope)))
 

@@ -21,7 +21,7 @@ abbrev pub is_global_text : List ℕ → Bool
 is_global_text [] = false
 is_global_text (b ∷ bs) = b == 47
 
--- Labels without what FORs put behind them: a # and a value for each.
+-- Labels without what FORs put after them: a # and a value for each.
 abbrev mutual
   pub unturned : List ℕ → List ℕ
   unturned [] = []

@@ -26,7 +26,7 @@ pub fn is_global_text(text: &[u8]) -> bool
     }
 }
 
-/// The first label of a scope, in front of what a FOR puts behind it, and what follows the slash
+/// The first label of a scope, before what a FOR puts after it, and what follows the slash
 /// after it; `None` if there is no slash.
 pub fn split_label(scope: &[u8]) -> Option<(&[u8], &[u8])>
     ensures some { IfSome result (λ parts.

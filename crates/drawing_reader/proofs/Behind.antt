@@ -1,4 +1,4 @@
--- What stands behind the next token.
+-- What stands after the next token.
 use Rattle.std.proofs.Common.{◌≡◌, ◌≢◌, ℕ, Bool, true, false, not, List, [], ◌∷◌, Some, None, refl, sym, ap}
 use Rattle.std.specs.Prelude.{IsTrue, IsFalse, slice_get}
 use Rattle.scald_lex.specs.declared.token.Token as lex

@@ -20,7 +20,7 @@ use Rattle.drawing_reader.specs.Ascending.{label_cmp, IsLast, Climbs, AreFresh}
 label_cmp_total : IsTotalOrder label_cmp
 label_cmp_total = then_total (on_total (λ (n : List ℕ). length n) nat_cmp_total) nat_list_cmp_total
 
--- ---- one label behind another
+-- ---- one label after another
 
 only_key : (k l : Key) → Contains (k ∷ []) l → k ≡ l
 only_key k l (zero, below, e) = e
@@ -122,7 +122,7 @@ no_head_label scope n name m h =
     (lacks_both k ps (fs ++ gs) (no_parameter scope n name m.params h.parameters)
     (lacks_both k fs gs (no_formal scope n name m.ins h.ins) (no_formal scope n name m.outs h.outs)))
 
--- no label of a scope behind the macros
+-- no label of a scope after the macros
 no_macro_label : (scope n : ℕ) (name : List ℕ) (ms : List tree.Macro) (hs : List Head) → scope + length ms ≤ n → Lacks (key n Label name) (macros_declared scope ms hs)
 no_macro_label scope n name [] hs behind = lacks_none (key n Label name)
 no_macro_label scope n name (m ∷ ms) [] behind = lacks_none (key n Label name)

@@ -41,7 +41,7 @@ key_found d [] h = absurd (omega (arith, h.1))
 key_found d (x ∷ xs) (zero, below, e) = ap (λ (b : Bool). b || list_any (eq-value.it d) xs) (key_same d x (sym e))
 key_found d (x ∷ xs) (suc k, below, e) = ap (λ (b : Bool). eq-value.it d x || b) (key_found d xs (k, omega arith, e)) ∙ or-true (eq-value.it d x)
 
--- ---- keys of a front and of more behind it
+-- ---- keys of a front and of more after it
 
 front_has : (front more : List Key) (k : Key) → Contains front k → Contains (front ++ more) k
 front_has [] more k found = absurd (omega (arith, found.1))

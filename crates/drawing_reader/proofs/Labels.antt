@@ -18,7 +18,7 @@ use Rattle.drawing_tree.proofs.Views.{view_use, view_wire, view_choice, view_if,
 use Rattle.drawing_grammar.specs.declared.declared.Kind.TheVariants.{Constant, Parameter, Formal, Label}
 use Rattle.drawing_grammar.specs.DoubleNames.{declaration, constants, parameters, formals, labels, statement_labels, else_labels, head_declared, macros_declared}
 
--- the item at a place, and those behind it
+-- the item at a place, and those after it
 pub dropped : {A : Type 0} (xs : List A) (i : ℕ) (x : A) → i < length xs → x ≡ get_or xs i x → drop i xs ≡ x ∷ drop (i + 1) xs
 dropped {A = A} xs i x below is = drop-cons xs i x below ∙ (ap (λ (y : A). y ∷ drop (suc i) xs) (sym is) ∙ ap (λ (n : ℕ). x ∷ drop n xs) (sym (add-one i)))
 

@@ -21,7 +21,7 @@ lone old new t e f o no_factor no_term rest =
     (moves (plainly number 0 old new t refl e f o (part Factors 0 ∷ part Terms 0 ∷ rest))
     (moves (left_out Factors 0 new (λ left. left) no_factor refl (part Terms 0 ∷ rest)) (left_out Terms 0 new (λ left. left) no_term refl rest)))
 
--- the same by what stands behind the number
+-- the same by what stands after the number
 pub lone_behind : (old new : Cursor) (t : lex.Token) → first_terminal (tokens_at old) ≡ is.Number →
     (first_terminal (tokens_at old) ≢ is.EndOfText → tokens_at old ≡ at old t ∷ tokens_at new) → new.operators ≡ old.operators →
     choice Factors (first_terminal (behind_first (tokens_at old))) ≡ None → choice Terms (first_terminal (behind_first (tokens_at old))) ≡ None →

@@ -51,7 +51,7 @@ judged_stop h all rest some others (Refused r) so e found = record {
 abbrev pub blank_token : lex.Token
 blank_token = record { kind = Word; place = record { line = 0; col = 0 }; start = 0; end = 0 }
 
--- the names of the token at a place, and of those behind it
+-- the names of the token at a place, and of those after it
 pub next_names : (text : List ℕ) (tokens : List lex.Token) (i : ℕ) (in_head next : Bool) → i < length tokens →
     next ≡ head_behind in_head (terminal (lexeme_of text (get_or tokens i blank_token))) →
     names_from in_head (lexemes text (drop i tokens)) ≡ names_at in_head (terminal (lexeme_of text (get_or tokens i blank_token)))

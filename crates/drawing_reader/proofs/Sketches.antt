@@ -18,7 +18,7 @@ use Rattle.drawing_reader.specs.Sketched.{headed, with_constants}
 abbrev pub RestValues : Edition → List Need → Type 0
 RestValues e rest = Values (from_macros e ++ rest)
 
--- the sketch of a header, of constants and of what stands behind them
+-- the sketch of a header, of constants and of what stands after them
 abbrev pub sketch_from : (e : Edition) (rest : List Need) → WrittenHeader → PlacedConstants → RestValues e rest → Values (part (Text e) 0 ∷ rest)
 sketch_from e rest header consts v = (
   record {

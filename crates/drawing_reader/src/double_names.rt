@@ -259,7 +259,7 @@ pub fn distinct_names(
     let mut declarations = Declarations::new(alloc);
     declarations.constants(consts.consts.as_slice(), consts.name_places.as_slice())?;
     declarations.definitions(macros.as_slice(), heads)?;
-    // No memory is taken for labels that are seen to differ by their order alone, as most are where
+    // No memory is taken for labels that are seen to differ by their order alone, as most are if
     // there are many.
     if are_ascending(body) {
         return Ok(());

@@ -147,7 +147,8 @@ fn sift_token<'a>(
         next ≡ head_behind in_head (terminal (lexeme_of text.now token))) }
     ensures sifted { OnOk result ((all rest : List Naming) →
         Sifting (map naming_of doubtful.old) all
-        (names_at in_head (terminal (lexeme_of text.now token)) (lexeme_of text.now token) ++ rest) →
+        (names_at in_head (terminal (lexeme_of text.now token)) (lexeme_of text.now token)
+        ++ rest) →
         Sifting (map naming_of doubtful.new) all rest) }
 {
     match terminal_of(text, token) {

@@ -23,7 +23,7 @@ use Rattle.drawing_tree.proofs.Examples.{a, here, named, single, checker}
 abbrev use_named : List ℕ → Statement
 use_named label = Use (record checker { label = label })
 
--- those inside of an IF, behind THEN and behind ELSE, before those after it
+-- those inside of an IF, after THEN and after ELSE, before those after it
 in_the_order_of_the_text : labels
     (cons (If a (cons (use_named (codes "u")) nil) (else_ (cons (use_named (codes "v")) nil)) here)
     (cons (use_named (codes "w")) nil)) ≡ codes "u" ∷ codes "v" ∷ codes "w" ∷ []
@@ -186,7 +186,7 @@ below = record (single (named (codes "A"))) { place = there }
 output_below : IsUseAt IsFirstLine (record checker { outs = below ∷ [] }) → ⊥
 output_below h = let first : 2 ≡ 1 = h.outs.0 in omega arith
 
--- of each statement behind ELSE
+-- of each statement after ELSE
 else_below : IsStatementAt IsFirstLine
     (If a nil (else_ (cons (Use (record checker { place = there })) nil)) here) → ⊥
 else_below h = let first : 2 ≡ 1 = h.2.0.place in omega arith

@@ -85,7 +85,7 @@ abbrev pub fall_text : Option (Expression × Expression) → List ℕ
 fall_text None = []
 fall_text (Some fall) = codes ", " ++ bounds_text fall.0 fall.1
 
--- in brackets, a fall delay behind the delay; without a delay it counts as not there
+-- in brackets, a fall delay after the delay; without a delay it counts as not there
 abbrev pub delay_text : Option (Expression × Expression) → Option (Expression × Expression) → List ℕ
 delay_text None fall = []
 delay_text (Some delay) fall =

@@ -28,7 +28,7 @@ and_of_a_zero = refl
 or_of_a_one : gate_bit Or (false ∷ false ∷ true ∷ []) ≡ true
 or_of_a_one = refl
 
--- a delay of 5 behind wires of 2 and 3: a register names its output 1 tick before, its clock also 8 ticks before
+-- a delay of 5 after wires of 2 and 3: a register names its output 1 tick before, its clock also 8 ticks before
 register_names : (bounds : Bounds) → named_before Reg bounds 5 (2 ∷ 3 ∷ []) ≡ 1 ∷ 8 ∷ 7 ∷ 8 ∷ []
 register_names bounds = refl
 

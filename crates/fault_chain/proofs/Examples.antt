@@ -142,7 +142,7 @@ none_may : through_pins 5 (late 0 0) (pin 0 ∷ pin 1 ∷ []) ≡ None
 unfolding back earlier
 none_may = refl
 
--- an element listens to the pins behind its input too: those of a register's set and reset
+-- an element listens to the pins after its input too: those of a register's set and reset
 past_the_input : next_link (circuit (late 0 0) (element RegRs (late 0 0) [])) changing
     (element RegRs (late 0 2) (constant ∷ pin 1 ∷ constant ∷ pin 0 ∷ [])) 6 ≡ Some (link 0 4 F)
 unfolding back earlier

@@ -15,7 +15,7 @@ last_text c cases one =
     flat_map-append (case_text c) cases (one ∷ [])
     ∙ ap (λ (text : List ℕ). flat_map (case_text c) cases ++ text) (flat_map-cons (case_text c) one [] ∙ append-nil (case_text c one))
 
--- the text of the case, with this number and these faults, goes behind
+-- the text of the case, with this number and these faults, goes after
 pub text_more : (c : Circuit) (head before after : List ℕ) (cases : List Case) (one : Case) (number : ℕ) (found : List Fault) →
     before ≡ head ++ flat_map (case_text c) cases → number ≡ one.listed.number → found ≡ faults_of c one.waves →
     after ≡ before ++ case_lines c number one.waves found → after ≡ head ++ flat_map (case_text c) (cases ++ one ∷ [])

@@ -1,4 +1,4 @@
--- Where an equation is asked: as far behind a tick as its delay and wires reach, and one tick more.
+-- Where an equation is asked: as far before a tick as its delay and wires reach, and one tick more.
 use Rattle.std.proofs.Common.{◌≡◌, ℕ, ◌+◌, ◌≤◌, max, true, List, [], ◌∷◌, get_or, arith, All}
 use Rattle.std.proofs.lemmas.List.Elements.{All-nil, All-cons}
 use Rattle.scald_base.specs.Time.{Bounds}

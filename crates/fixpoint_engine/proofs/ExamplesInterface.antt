@@ -145,7 +145,7 @@ early_rise : permitted 10 ("0111000000" ∷ "1111111111" ∷ []) ≡ codes "0011
 unfolding back earlier
 early_rise = refl
 
--- a rise at tick 9, the last of the run, and behind it
+-- a rise at tick 9, the last of the run, and after it
 last_rise : permitted 10 ("0011000001" ∷ "1111111111" ∷ []) ≡ codes "00000000001111"
 unfolding back earlier
 last_rise = refl

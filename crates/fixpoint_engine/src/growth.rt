@@ -31,7 +31,7 @@ impl Growth {
         }
     }
 
-    /// What came in since all was forgotten, where now all was but the first so many waves.
+    /// What came in since all was forgotten, once all but the first so many waves are forgotten.
     pub fn after(self, kept: usize) -> Growth {
         if kept == 0 { Growth::new() } else { self }
     }

@@ -242,7 +242,7 @@ seen_append (x ∷ xs) ys v =
     behind_same (seen x v) (λ w. all_seen (xs ++ ys) w) (λ w. behind (all_seen xs w) (λ u. all_seen ys u)) (λ w. seen_append xs ys w)
     ∙ sym (behind_behind (seen x v) (λ w. all_seen xs w) (λ u. all_seen ys u))
 
--- one behind all others
+-- one after all others
 last_seen : (x : Note) (ys : List Note) (v : Sight) → all_seen (x ∷ ys) v ≡ all_seen (ys ++ x ∷ []) v
 last_seen x [] v = refl
 last_seen x (y ∷ ys) v =
@@ -251,7 +251,7 @@ last_seen x (y ∷ ys) v =
     ∙ behind_behind (seen y v) (λ w. seen x w) (λ u. all_seen ys u)
     ∙ behind_same (seen y v) (λ w. all_seen (x ∷ ys) w) (λ w. all_seen (ys ++ x ∷ []) w) (λ w. last_seen x ys w)
 
--- Some behind all others.
+-- Some after all others.
 pub exchanged : (xs ys : List Note) (v : Sight) → all_seen (xs ++ ys) v ≡ all_seen (ys ++ xs) v
 exchanged [] ys v = ap (λ zs. all_seen zs v) (sym (append-nil ys))
 exchanged (x ∷ xs) ys v =

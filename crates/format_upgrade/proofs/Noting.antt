@@ -33,7 +33,7 @@ pub parts_of : {A B : Type 0} (o : Outcome A) (next : A → State → Outcome B)
 parts_of (Gives a s) next b t h = record { value = a; state = s; first = refl; rest = h }
 parts_of (Fails kind place) next b t h = absurd (cc)
 
--- ---- notes one behind another
+-- ---- notes one after another
 
 pub record NotedParts (xs ys : List Note) (s t : State) : Type 0 where
   pub state : State

@@ -51,7 +51,7 @@ reversed_more f copies xs i x copy below here same so_far =
     ∙ sym (reverse-append (f x ∷ []) (map f (drop (i + 1) xs)))
     ∙ ap (λ ys. reverse (map f ys)) (sym next)
 
--- a copy of one more, behind others
+-- a copy of one more, after others
 pub copied_behind : {X Z : Type 0} (f : X → Z) (front : List Z) (copies xs : List X) (i : ℕ) (x copy : X) → i < length xs → x ≡ get_or xs i x → f copy ≡ f x →
     map f copies ≡ front ++ map f (take i xs) → map f (copies ++ copy ∷ []) ≡ front ++ map f (take (i + 1) xs)
 copied_behind f front copies xs i x copy below here same so_far =

@@ -180,7 +180,7 @@ pub zero_loop : refusal_line (record { kind = ZeroLoop; place = record { line = 
 unfolding digits refusal_line
 zero_loop = refl
 
--- 41 bits of a net X behind a clock CK, which was named last
+-- 41 bits of a net X after a clock CK, which was named last
 abbrev chain : Circuit
 chain = circuit (map (λ bit. net (codes "X") bit Unasserted (Some 0)) (range_with_len 0 41) ++ net (codes "CK") 0 clocked None ∷ []) [] (41 ∷ range_with_len 0 41)
 

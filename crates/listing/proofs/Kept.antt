@@ -14,7 +14,7 @@ use Rattle.listing.specs.declared.known.KnownLines.{KnownLines}
 use Rattle.listing.specs.declared.lines.Lines.{Lines}
 use Rattle.listing.specs.Lines.{lines_text, IsWithin, IsLine, HasLine, AreLines, Keeps}
 
--- ---- bytes that come behind what is kept
+-- ---- bytes that come after what is kept
 
 within_still : (kept more : List ℕ) (p : Part) → IsWithin kept p → IsWithin (kept ++ more) p
 within_still kept more p w = record {

@@ -1,4 +1,4 @@
--- Texts that are put behind one another, and parts of them.
+-- Texts that are put one after another, and parts of them.
 use Rattle.std.proofs.Common.{◌≡◌, ℕ, zero, suc, ◌+◌, ◌<◌, List, [], ◌∷◌, ◌++◌, length, get_or, take, drop, map, append_assoc, append-nil, refl, arith, add-one, sym, ap, ◌∙◌, subst}
 use Rattle.std.specs.Prelude.{Result, OnErr, OnOk}
 use Rattle.std.specs.List.{concat, flat_map}
@@ -8,7 +8,7 @@ use Rattle.listing.specs.Text.{HasPart, line}
 pub part_all : (old new text : List ℕ) → new ≡ old ++ text → HasPart old new text
 part_all old new text added = record { part = text; rest = []; added = added; is = append-nil text }
 
--- a part of the first of two texts, and of the second behind the whole first one
+-- a part of the first of two texts, and of the second after the whole first one
 pub part_first : (old new first second : List ℕ) → HasPart old new first → HasPart old new (first ++ second)
 part_first old new first second h =
     record { part = h.part; rest = h.rest ++ second; added = h.added; is = sym (append_assoc h.part h.rest second) ∙ ap (λ (l : List ℕ). l ++ second) h.is }
@@ -76,7 +76,7 @@ pub item_added : {X : Type 0} (f : X → List ℕ) (xs : List X) (i : ℕ) (d : 
 item_added f xs i d old between new within before added =
     rw (add-one, flat_more f xs i d within) (both old between new (flat_map f (take i xs)) (f (get_or xs i d)) before added)
 
--- a part of the text of one item, behind the texts of those before it
+-- a part of the text of one item, after the texts of those before it
 pub part_of_item : {X : Type 0} (f : X → List ℕ) (xs : List X) (i : ℕ) (d : X) (old between new : List ℕ) → i < length xs →
     between ≡ old ++ flat_map f (take i xs) → HasPart between new (f (get_or xs i d)) → HasPart old new (flat_map f xs)
 part_of_item f xs i d old between new within before h =

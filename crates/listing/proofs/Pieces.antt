@@ -12,14 +12,14 @@ use Rattle.listing.specs.Output.{part_of, text_of}
 
 -- ---- parts of bytes that grow
 
--- a part stays as it was when bytes come behind all
+-- a part stays as it was when bytes come after all
 pub part_stays : (kept more : List ℕ) (from to : ℕ) → from ≤ to → to ≤ length kept →
     slice_range (kept ++ more) from to ≡ slice_range kept from to
 part_stays kept more from to up within =
     ap (λ (xs : List ℕ). take (to - from) xs) (drop-append-le from kept more (omega arith))
     ∙ take-append-le (to - from) (drop from kept) more (omega (arith, length-drop from kept))
 
--- what came behind all, as a part
+-- what came after all, as a part
 pub part_added : (kept more : List ℕ) (from to : ℕ) → from ≡ length kept →
     to ≡ length (kept ++ more) → slice_range (kept ++ more) from to ≡ more
 part_added kept more from to begins ends =

@@ -128,7 +128,7 @@ run_stopped old now new text cells slot end v here same h l =
     part_of_rest old now new (run_text (run v (end - slot))) (rest_text cells end) text
     (subst (λ (t : List ℕ). Lacks old now t text) (begins cells slot end v here same) l) h
 
--- nothing is left behind the last slot
+-- nothing is left after the last slot
 pub all_written : (old now text : List ℕ) (cells : List Value) (slot : ℕ) → length cells ≤ slot → Lacks old now (rest_text cells slot) text → now ≡ old ++ text
 all_written old now text cells slot past l =
     let none : rest_text cells slot ≡ [] = ap (λ (vs : List Value). flat_map run_text (runs vs)) (drop_past cells slot past) in

@@ -30,7 +30,7 @@ pub record AreLines (c : Circuit) (l : Lines) : Type 0 where
   pub last : IsWithin l.kept l.last
   pub known : AllByRecursion (HasLine c l.kept) l.known.lines
 
--- These bytes came behind all that was kept, as this part, and the lines are as before.
+-- These bytes came after all that was kept, as this part, and the lines are as before.
 pub record Keeps (c : Circuit) (old new : Lines) (bytes : List ℕ) (p : Part) : Type 0 where
   pub are : AreLines c new
   pub text : lines_text new ≡ lines_text old

@@ -4,9 +4,9 @@
 //!
 //! The layer above composes a report of [`begin_report`], [`write_case`] for each case, and
 //! [`end_report`]. Each call appends exactly its lines to the bytes that it is given. [`Lines`] are
-//! those of a report of which many lines come again in other cases: each is made and kept once. `specs/Head`,
-//! `specs/Case`, `specs/End` and `specs/Answer` say which lines these are, over `specs/Wave`,
-//! `specs/Run` and `specs/Fault`.
+//! those of a report of which many lines come again in other cases: each is made and kept once.
+//! `specs/Head`, `specs/Case`, `specs/End` and `specs/Answer` say which lines these are, over
+//! `specs/Wave`, `specs/Run` and `specs/Fault`.
 //!
 //! A crate whose own lines name nets, instances and faults composes them of the same pieces
 //! ([`add_line`], [`add_pieces`]), with [`write_period`], [`write_fault`] and

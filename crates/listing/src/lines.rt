@@ -255,7 +255,7 @@ impl Lines {
         Ok(())
     }
 
-    /// All lines, with the last line of the report behind them: how many faults there are over all
+    /// All lines, with the last line of the report after them: how many faults there are over all
     /// cases, or that there is none.
     pub fn end(self, c: &Circuit, total: u32) -> Result<Output, NoMemory>
         requires { AreLines c.now self }

@@ -101,7 +101,7 @@ module _ {X Y : Type 0} (step : X → Judged Y) where
   behind_step a b xs (Ok y) h = h y
   behind_step a b xs (Err kind) h = refl
 
-  -- what comes behind does not look at what is there
+  -- what comes after does not look at what is there
   pub collected_behind : (a b : List Y) (xs : List X) → collected step (a ++ b) xs ≡ jmap (λ ys. a ++ ys) (collected step b xs)
   collected_behind a b [] = refl
   collected_behind a b (x ∷ xs) =

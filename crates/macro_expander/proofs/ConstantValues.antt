@@ -46,7 +46,7 @@ module _ (known : List Binding) (cs : List Assign) (places : List Place)
   abbrev place : Place
   place = get_or places i nowhere
 
-  -- what those behind it give
+  -- what those after it give
   abbrev behind : List Binding → State → Outcome (List Binding)
   behind env s = const_values env (map assignment_of (drop (i + 1) cs)) (drop (i + 1) places) s
 

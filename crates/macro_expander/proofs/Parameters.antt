@@ -30,7 +30,7 @@ found_given name xs r e = copied r ∙ ap is_some e ∙ found_any (λ x. bytes_e
     copied None = refl
     copied (Some b) = refl
 
--- ---- one more, before those behind
+-- ---- one more, before those that follow
 
 unknown : (a b : Bool) → a && (b && false) ≡ false
 unknown true true = refl
@@ -61,7 +61,7 @@ module _ (known : List ℕ → Bool) (params : List Assign) (i : ℕ) (x : Assig
       let unknown : known x.name ≡ false = sym (subst (λ (n : List ℕ). r ≡ known n) name_is e) ∙ off in
       not_all known i params (ap (λ (xs : List Assign). are_of known (map assignment_of xs)) split ∙ rw unknown refl)
 
-  -- whether the look-up of its name finds one is whether one behind it has the name
+  -- whether the look-up of its name finds one is whether one after it has the name
   pub found_behind : (es : List Place) (place : ℕ) (name : List ℕ) (r : Option (Bor Assign)) (found : Bool) → place ≡ i + 1 → name ≡ x.name →
       LeadTo assigned_name es params (drop place params) →
       option_copied r ≡ bit_at_place params (lookup (λ (k : Vec ℕ). bytes_eq name k.items) es) → found ≡ is_some r →

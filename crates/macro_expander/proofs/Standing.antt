@@ -55,7 +55,7 @@ IsBodyAt P None = ⊤
 IsBodyAt P (Some body) = (m : Macro) → IsMacroAt P m → IsActAt P (body m)
 
 module _ (P : Place → Type 0) where
-  -- ---- steps one behind another
+  -- ---- steps one after another
 
   after_at : {A B : Type 0} (o : Outcome A) (next : A → State → Outcome B) → IsOutcomeAt P o →
       ((a : A) (s : State) → IsStateAt P s → IsOutcomeAt P (next a s)) → IsOutcomeAt P (after o next)

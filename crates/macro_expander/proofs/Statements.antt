@@ -1,4 +1,4 @@
--- Statements one behind another, and the uses of macros.
+-- Statements one after another, and the uses of macros.
 use Rattle.std.proofs.Common.{◌≡◌, ◌≢◌, ℕ, zero, suc, ◌+◌, ◌-◌, ◌<◌, Bool, true, false, cond, List, [], ◌∷◌, length, drop, get_or, Option, Some, None, Result, Ok, refl, ap, sym, ◌∙◌, subst, arith}
 use Rattle.std.specs.List.{All, find}
 use Rattle.std.proofs.lemmas.List.Elements.{All-head, All-tail}
@@ -28,7 +28,7 @@ use Rattle.macro_expander.proofs.Nets.{grows_trans}
 use Rattle.macro_expander.proofs.Gathered.{next_of}
 use Rattle.macro_expander.proofs.PrimitiveUses.{done_later}
 
--- ---- one behind another
+-- ---- one after another
 
 pub item_fits : (h : Header) (all : List Stmt) (i : ℕ) (x : Stmt) → StatementsFit h (statements_of all) → i < length all → x ≡ get_or all i x → StatementFits h (statement_of x)
 item_fits h [] i x f below is = absurd (omega arith)

@@ -50,7 +50,7 @@ parameter_text Hold = codes "HOLD"
 parameter_text High = codes "HIGH"
 parameter_text Low = codes "LOW"
 
--- what stands behind the parameter
+-- what stands after the parameter
 abbrev pub margin_text : Circuit → Margin → List ℕ
 margin_text c Faulty = codes "FAULT"
 margin_text c (Limit more) = concat (decimal more ∷ codes " LIMIT" ∷ [])

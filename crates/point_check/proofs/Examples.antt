@@ -107,7 +107,7 @@ unfolding back earlier
 falls_anywhere = refl
 
 -- The window has slots 5 to 7 and 0 up to the edge, and then all slots once more: slot 7 comes first before the edge, and
--- slot 1 behind it.
+-- slot 1 after it.
 first_before : fault RiseFall (eight C C C C C C C C) changes_in_7 (Edges 4 0) ≡ Some (Point Setup 0 0 7 67)
 unfolding checker_fault back earlier
 first_before = refl

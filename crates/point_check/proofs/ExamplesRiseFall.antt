@@ -17,7 +17,7 @@ use Rattle.point_check.proofs.Literal.{Breaks, broken, unbroken, high_to, found,
 abbrev checker : ℕ → ℕ → Instance
 checker setup hold = element RiseFall (Edges setup hold) (on 0 ∷ on 1 ∷ [])
 
--- the clock and the input, tick by tick, behind wires of these delays
+-- the clock and the input, tick by tick, after wires of these delays
 abbrev behind : List ℕ → String → String → Run
 behind wires clock input = run_of (length (bits clock)) wires (bits clock ∷ bits input ∷ [])
 

@@ -19,7 +19,7 @@ of_pins pins setup hold = element SetupHold (Edges setup hold) pins
 abbrev checker : ℕ → ℕ → Instance
 checker setup hold = of_pins (on 0 ∷ on 1 ∷ []) setup hold
 
--- the clock and the input, tick by tick, behind wires of these delays
+-- the clock and the input, tick by tick, after wires of these delays
 abbrev behind : List ℕ → String → String → Run
 behind wires clock input = run_of (length (bits clock)) wires (bits clock ∷ bits input ∷ [])
 

@@ -131,7 +131,7 @@ module _ (p k : ℕ) (clock input : Wave Value) (limits : Limits) (n edge fall c
   ordered : edge < fall
   ordered = high.ordered
 
-  -- so many slots behind the edge's, the clock falls
+  -- so many slots after the edge's, the clock falls
   falls_then : has (fold values clock (edge % p + (fall - edge))) true false ≡ true
   falls_then =
       let before = ordered in

@@ -43,7 +43,7 @@ module _ (cells : List Value) (w : Window) (t from : ℕ) (is : from ≡ slot_at
       first_mover_here (length cells) (read cells) w t place (λ k below. still_quiet k (before k below)) within
       (a_mover (length cells) (read cells) w t place (read cells (from + place)) (read_place cells w t from place is) (not-true _ (sym here)))
 
--- the slot that many behind a rise, counted from the slot behind it
+-- the slot that many after a rise, counted from the slot after it
 read_behind : (cells : List Value) (period t from k : ℕ) → period ≡ length cells → from ≡ (t + 1) % period → read cells (t + (k + 1)) ≡ read cells (from + k)
 read_behind cells period t from k same is =
     let on : t + (k + 1) ≡ t + 1 + k = omega arith in

@@ -24,7 +24,8 @@ pub trait Program {
     ghost within: { Self.Command → Type 0 } = { λ command. Unit {0} };
 
     /// What is promised of a text whose reply has this outcome, beside the outcome and the bytes.
-    ghost promised: { Self.Command → List ℕ → Self.Outcome → Type 0 } = { λ command text o. Unit {0} };
+    ghost promised: { Self.Command → List ℕ → Self.Outcome → Type 0 } = { λ command text o.
+        Unit {0} };
 
     /// What the words ask for. If they are unrecognised, `Err` is the number of the first with
     /// which no form continues, from 0, or the count of words if one is missing.

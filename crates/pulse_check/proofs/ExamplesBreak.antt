@@ -16,7 +16,7 @@ use Rattle.pulse_check.proofs.Literal.{Breaks, broken, unbroken, found, pulse_to
 abbrev checker : ℕ → ℕ → Instance
 checker high low = element MinPulse (Pulses high low) (on 0 ∷ [])
 
--- the net, tick by tick, behind a wire of this delay
+-- the net, tick by tick, after a wire of this delay
 abbrev behind : ℕ → String → Run
 behind wire x = run_of (length (bits x)) (wire ∷ []) (bits x ∷ [])
 

@@ -1,4 +1,4 @@
--- Marks in a list of runs: what is put behind the list leaves them as they are, and where a search for a slot begins.
+-- Marks in a list of runs: what is put after the list leaves them as they are, and where a search for a slot begins.
 use Rattle.std.proofs.Common.{◌≡◌, ℕ, zero, suc, ◌+◌, ◌-◌, ◌<◌, ◌≤◌, ◌⊎◌, inl, inr, Bool, true, false, if◌then◌else◌, List, [], ◌∷◌, ◌++◌, length, get_or, take, set, refl, sym, ap, ◌∙◌, arith, subst}
 use Rattle.std.specs.Prelude.{slice_get}
 use Rattle.std.specs.List.Sorted.{IsNonDecreasingBy}
@@ -53,7 +53,7 @@ module _ {T : Type 0} where
         old.1 ∙ ap (λ (l : List (Run T)). length (cells_of l)) (sym (take-set-le (marked_run i) rs last r (omega (arith, there, is_last)))),
       )
 
-  -- the run behind the others is marked
+  -- the run after the others is marked
   pub marks_mark : (rs : List (Run T)) (r : Run T) (marks : List ℕ) (begin : ℕ) → marked_run (length marks) ≡ length rs → begin ≡ length (cells_of rs) →
       AreMarks rs marks → AreMarks (rs ++ r ∷ []) (marks ++ begin ∷ [])
   marks_mark rs r marks begin turn is h i below = go (cases_lt i (length marks))

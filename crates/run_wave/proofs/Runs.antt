@@ -1,4 +1,4 @@
--- What becomes of the cells of a list of runs when runs are put behind it, widened, taken and left out.
+-- What becomes of the cells of a list of runs when runs are put after it, widened, taken and left out.
 use Rattle.std.proofs.Common.{◌≡◌, ℕ, zero, suc, ◌+◌, ◌-◌, ◌<◌, ◌≤◌, List, [], ◌∷◌, ◌++◌, length, get_or, take, drop, set, refl, sym, ap, ◌∙◌, arith, min}
 use Rattle.std.specs.Prelude.{replicate}
 use Rattle.std.specs.List.{sum_by}
@@ -246,7 +246,7 @@ module _ {T : Type 0} where
   pub first_within : (r : Run T) (rs : List (Run T)) → r.width ≤ length (cells_of (r ∷ rs))
   first_within r rs = let long = length_next (cells_of (r ∷ rs)) (cells_of rs) r.width r.cell refl in omega (arith, long)
 
-  -- ---- a step of the loops that put a part of a list behind another
+  -- ---- a step of the loops that put a part of a list after another
 
   pub pushed_dropped : (old now next : List T) (rs : List (Run T)) (i start left part : ℕ) (r : Run T) → i < length rs → r ≡ get_or rs i r →
       left ≡ start - length (cells_of (take i rs)) → part ≡ min left r.width → now ≡ old ++ drop start (cells_of (take i rs)) →

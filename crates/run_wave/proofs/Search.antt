@@ -25,7 +25,7 @@ module _ {T : Type 0} where
       ∙ ap (λ (l : List T). slice_get l (slot - length (cells_of (take i rs)))) (cells_of_ahead rs i r below is)
       ∙ slice_get_first r.width (slot - length (cells_of (take i rs))) r.cell (cells_of (drop (i + 1) rs)) (omega (arith, more))
 
-  -- the cell of the slot behind run i
+  -- the cell of the slot after run i
   begins_other : (rs : List (Run T)) (c : T) → BeginsWithout c rs → IsRuns rs → slice_get (cells_of rs) 0 ≢ Some c
   begins_other [] c other h e = cc
   begins_other (r ∷ rs) c other h e =

@@ -64,7 +64,7 @@ invents_a_failure c = did_not_rise c.failed
 at_place : (i : ℕ) (xs ys : List ℕ) → xs ≡ ys → get_or xs i 0 ≡ get_or ys i 0
 at_place i xs ys e = ap (λ (l : List ℕ). get_or l i 0) e
 
--- ---- one call: "abc" is left and the room has four bytes, or "abc" is to be written behind "x"
+-- ---- one call: "abc" is left and the room has four bytes, or "abc" is to be written after "x"
 
 gives_two : Gives (Some (codes "abc")) (Some (codes "c")) (codes "....") (codes "ab..") 2
 gives_two = record { fits = omega arith; bytes = refl; none = λ e. absurd cc; rest = refl }
@@ -144,7 +144,7 @@ not_past_at_the_limit r = absurd (omega (arith, r.past, front_length (codes "abc
 not_two_past : ¬ ReadsPast (Some (codes "abcde")) (Some []) 3
 not_two_past r = absurd (omega (arith, r.past, front_length (codes "abcde") r.front [] r.bytes))
 
--- ---- writing that stopped: "abc" was to be written behind "x"
+-- ---- writing that stopped: "abc" was to be written after "x"
 
 takes_no_byte : TakesFront (Some (codes "x")) (Some (codes "x")) (codes "abc")
 takes_no_byte = record { count = 0; within = omega arith; bytes = refl }

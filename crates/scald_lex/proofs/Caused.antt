@@ -266,7 +266,7 @@ caused_by : (rest : List ℕ) → 0 < length rest → IsAllowed rest → piece_a
 caused_by [] some allowed e = absurd (omega arith)
 caused_by (b ∷ bs) some allowed e = subst (Means b bs) e (means b bs) allowed
 
--- What is behind a place of an allowed text is allowed.
+-- What is after a place of an allowed text is allowed.
 pub allowed_behind : (text : List ℕ) (at : ℕ) → IsAllowed text → IsAllowed (drop at text)
 allowed_behind text at allowed k h = ap is_allowed (get_or-drop at text k 0)
     ∙ allowed (at + k) (omega (arith, length-drop at text))

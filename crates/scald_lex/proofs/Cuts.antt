@@ -51,7 +51,7 @@ ends_within text at count is =
     let some = is.some in
     omega (arith, prefix_len-le-length is_comment_byte (drop at text), length-drop at text)
 
--- The numbers of a place here and behind a piece on the line fit.
+-- The numbers of a place here and after a piece on the line fit.
 pub on_line_fits : (text : List ℕ) (s : Scan) (count : ℕ) → IsRead text s → length text < 4294967295 →
     IsOnLine count (drop s.at text) → (s.at + count < 4294967296) × (s.place.col + count < 4294967296)
 on_line_fits text s count read short is =

@@ -189,7 +189,7 @@ between : IsGap text 1 7
 between = blank 1 7 (omega arith) refl (comment 2 6 7 its_comment
     (blank 6 7 (omega arith) refl (nothing 7)))
 
--- A comment does not end before its line, nor go on behind it.
+-- A comment does not end before its line, nor go on after it.
 shorter_comment : IsComment text 2 5 → ⊥
 shorter_comment is = elim is.ended [ inl e ↦ omega arith | inr e ↦ omega arith ]
 

@@ -39,7 +39,7 @@ past_step true false a x xs m n h e k t = absurd (let f : false ≡ true = h ref
 past_step false true a x xs m n h e k t = omega arith
 past_step false false a x xs m n h e k t = absurd (let f : false ≡ true = e (eqb-true x a t) in cc)
 
--- A front, and the byte behind it.
+-- A front, and the byte after it.
 pub past : (p q : ℕ → Bool) (a : ℕ) → ((b : ℕ) → p b ≡ true → q b ≡ true) → q a ≡ true → (xs : List ℕ) → begins_with a (drop (prefix_len p xs) xs) ≡ true → prefix_len p xs < prefix_len q xs
 past p q a h k [] t = absurd cc
 past p q a h k (x ∷ xs) t = past_step (p x) (q x) a x xs (prefix_len p xs) (prefix_len q xs) (h x) (λ (e : x ≡ a). ap q e ∙ k) (past p q a h k xs) t

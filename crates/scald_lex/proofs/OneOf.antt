@@ -90,7 +90,7 @@ breaks_some b = not (is_allowed b) || (is_name_byte b || ((b == 34) || is_break 
 all_break : all_below breaks_some 127 ≡ true
 all_break = refl
 
--- A byte that stands neither in a name nor behind it breaks it off.
+-- A byte that stands neither in a name nor after it breaks it off.
 pub left_break : (b : ℕ) → is_allowed b ≡ true → is_name_byte b ≡ false → (b == 34) ≡ false →
     is_break b ≡ true
 left_break b allowed inside quoted =

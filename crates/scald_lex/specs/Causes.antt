@@ -14,7 +14,7 @@ abbrev pub BreaksOff : List ℕ → Type 0
 BreaksOff [] = ⊤
 BreaksOff (b ∷ bs) = is_break b ≡ true
 
--- A name that is not closed: behind its quote stand bytes of a name, and then a break or the end.
+-- A name that is not closed: after its quote stand bytes of a name, and then a break or the end.
 pub record IsOpenName (rest : List ℕ) : Type 0 where
   pub inside : List ℕ
   pub behind : List ℕ

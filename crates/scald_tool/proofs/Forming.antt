@@ -116,7 +116,7 @@ wrong_at front w ws i at on off = record {
 goes_on : (command : Command) → MayBeAsked command → (front rest : List (List ℕ)) → front ++ rest ≡ words_for command → GoesOn front
 goes_on command may front rest is = record { command = command; may = may; rest = rest; is = is }
 
--- ---- behind `verify`
+-- ---- after `verify`
 
 -- the words at the front, and the first byte of a word
 abbrev word_0 : List (List ℕ) → List ℕ
@@ -147,7 +147,7 @@ three_at_most Format = omega arith
 three_at_most Upgrade = omega arith
 three_at_most (Bench n) = omega arith
 
--- no word goes on behind a whole form of `verify` with a limit
+-- no word goes on after a whole form of `verify` with a limit
 past_limit : (mode : Mode) (n : ℕ) (x : List ℕ) (command : Command) (rest : List (List ℕ)) → codes "verify" ∷ (mode_words mode ++ (codes "rounds=" ++ decimal n) ∷ x ∷ rest) ≢ words_for command
 past_limit Full n x (Verify Full None) rest e = absurd (omega (arith, ap length e))
 past_limit Full n x (Verify Full (Some m)) rest e = absurd (omega (arith, ap length e))
@@ -166,7 +166,7 @@ abbrev IsNoMode : Mode → List ℕ → Type 0
 IsNoMode Full w = (w ≢ codes "waves") × (w ≢ codes "faults")
 IsNoMode mode w = Unit {0}
 
--- no other word goes on behind the mode than that with the limit
+-- no other word goes on after the mode than that with the limit
 past_mode : (mode : Mode) (w : List ℕ) → IsNoMode mode w → IsLimit w None → (command : Command) (rest : List (List ℕ)) →
     MayBeAsked command → codes "verify" ∷ (mode_words mode ++ w ∷ rest) ≢ words_for command
 past_mode Full w other none (Verify Full None) rest may e = absurd (omega (arith, ap length e))
@@ -256,7 +256,7 @@ verify_read (w ∷ ws) = by_waves (bytes_eq w (codes "waves")) refl
         any_head (x ∷ xs) = tt
     by_waves false e = by_faults (bytes_eq w (codes "faults")) refl (other_bytes w (codes "waves") e)
 
--- ---- behind `format`, `upgrade` and `bench`
+-- ---- after `format`, `upgrade` and `bench`
 
 past_format : (w : List ℕ) (command : Command) (rest : List (List ℕ)) → codes "format" ∷ w ∷ rest ≢ words_for command
 past_format w (Verify mode rounds) rest e = let byte : 102 ≡ 118 = ap (λ (ws : List (List ℕ)). byte_0 (word_0 ws)) e in absurd (omega (arith, byte))

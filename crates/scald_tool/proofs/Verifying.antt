@@ -1,4 +1,4 @@
--- The answer of `verify` behind what was there.
+-- The answer of `verify` after what was there.
 use Rattle.std.proofs.Common.{◌≡◌, ℕ, true, List, ◌++◌, ap, subst, ◌∙◌, Option}
 use Rattle.listing.specs.declared.case.Mode.{Mode}
 use Rattle.scald_base.specs.declared.outcome.Outcome.{Outcome}

@@ -23,7 +23,7 @@ pub record AsksWell (words : List (List ℕ)) (text : List ℕ) : Type 0 where
   pub settles : TextSettles request.rounds text
 
 -- It ends by how many limits are broken, which is none exactly if `verify` finds no fault, or
--- for want of memory.
+-- because memory runs out.
 pub record IsVerdict (c : Circuit) (cases : List Settled) (o : Outcome) : Type 0 where
   pub count : ℕ
   pub outcome : o ≡ verdict_of count

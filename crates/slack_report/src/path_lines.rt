@@ -67,7 +67,7 @@ fn widest(sheet: Sheet, steps: &[Step]) -> usize {
     width
 }
 
-/// Puts a number that fills so many columns, from the right, behind a mark.
+/// Puts a number that fills so many columns, from the right, after a mark.
 fn put_right(page: &mut Page, width: usize, mark: &[u8], number: i64) {
     page.spaces(
         width

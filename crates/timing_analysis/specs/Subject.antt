@@ -15,6 +15,7 @@ pub record IsSubject (s : Subject) : Type 0 where
   pub few : length s.cases ≤ 256
   pub exist : All (NetsExist s.circuit) s.cases
   pub classes : AreClasses s.circuit s.cases s.classes
-  pub reached : All (λ (case : List CaseValue). IfSome s.reached (AreReached s.circuit case)) s.cases
+  pub reached :
+      All (λ (case : List CaseValue). IfSome s.reached (AreReached s.circuit case)) s.cases
   pub reach_is : s.reach ≡ reach s.circuit
   pub reach_bounded : s.reach ≤ 8191

@@ -27,7 +27,7 @@ pub net_line_more : (c : Circuit) (n : ℕ) (row : List Bool) → net_line c n [
 unfolding net_line
 net_line_more c n row = apart (net_text c n) (codes " ") (flat_map digit_text row)
 
--- what stands behind the front of the line
+-- what stands after the front of the line
 pub digits_behind : (c : Circuit) (n count : ℕ) (row : List Bool) (line digits : List ℕ) → line ≡ net_line c n row → count ≡ length (net_line c n []) →
     digits ≡ drop count line → digits ≡ flat_map digit_text row
 digits_behind c n count row line digits is long behind =

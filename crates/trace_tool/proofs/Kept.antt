@@ -1,4 +1,4 @@
--- What a pass over the ticks keeps of those behind it decides the tick at hand.
+-- What a pass over the ticks keeps of those before it decides the tick at hand.
 use Rattle.std.proofs.Common.{◌≡◌, ℕ, ◌+◌, Bool, true, false, ◌||◌, Option, ap, sym, ◌∙◌}
 use Rattle.std.proofs.lemmas.Bool.{both_ways}
 use Rattle.scald_base.specs.Signal.{Signal}

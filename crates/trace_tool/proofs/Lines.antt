@@ -10,7 +10,7 @@ use Rattle.trace_tool.specs.declared.line.Line.{Line}
 use Rattle.trace_tool.specs.declared.line.Line.TheVariants.{Delays, Bits, End}
 use Rattle.trace_tool.specs.Trace.{line_order}
 
--- ---- one list behind another
+-- ---- one list after another
 
 pub get_front : {X : Type 0} (xs ys : List X) (i : ℕ) → i < length xs → slice_get (xs ++ ys) i ≡ slice_get xs i
 get_front [] ys i h = absurd (omega arith)
@@ -52,7 +52,7 @@ line_at_delays c k place is below =
     ∙ slice_get-map (λ k. Delays k) (range_with_len 0 (length c.instances)) k
     ∙ ap (option_map (λ k. Delays k)) (get_range (length c.instances) k below)
 
--- behind the instances
+-- after the instances
 behind_delays : (c : Circuit) (at place : ℕ) → place ≡ suc (length c.instances + at) →
     slice_get (line_order c) place ≡ slice_get (bits_lines c ++ End ∷ []) at
 behind_delays c at place is =

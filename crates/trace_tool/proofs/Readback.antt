@@ -91,7 +91,7 @@ head_is_one m n small few same =
     let one : m ∷ [] ≡ n ∷ [] = sym (head_read m small) ∙ ap numbers_of same ∙ head_read n few in
     ap (λ (xs : List ℕ). slice_index_or xs 0 0) one
 
--- delays of wires, behind a number that is begun
+-- delays of wires, after a number that is begun
 pub wires_read : (begun : Option ℕ) (wires : List ℕ) → AreSmall wires → numbers_after begun (wires_text wires) ≡ closed begun ++ wires
 wires_read begun [] small = sym (append-nil (closed begun))
 wires_read begun (w ∷ ws) small =

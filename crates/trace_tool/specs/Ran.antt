@@ -1,5 +1,5 @@
--- What `run` and `vcd` reply to a text: a run that is drawn of its circuit, as a trace or as a value
--- change dump; or why there is none.
+-- What `run` and `vcd` reply to a text: a run that is drawn of its circuit, as a trace or as a
+-- value change dump; or why there is none.
 use Rattle.std.specs.Prelude.{◌≡◌, ℕ, ◌-◌, ◌*◌, ◌<◌, ◌≤◌, List, [], length, slice_get, Option, Some, None}
 use Rattle.scald_base.specs.declared.refusal.Refusal.{Refusal}
 use Rattle.flat_circuit.specs.declared.case.CaseValue.{CaseValue}

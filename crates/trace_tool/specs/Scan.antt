@@ -87,7 +87,7 @@ abbrev pub again : Kind → Option Split → ℕ × ℕ → List ℕ → ℕ × 
 again kind two pick wires =
     picked (picks_count kind two) (shown (picks_count kind two) pick ++ wires)
 
--- the delays that the numbers behind an instance's name are
+-- the delays that the numbers after an instance's name are
 abbrev pub IsGuess : Instance → List ℕ → ℕ × ℕ → List ℕ → Type 0
 IsGuess i line pick wires =
     let found = numbers_of (drop (length (bit_text (instance_name i))) line) in

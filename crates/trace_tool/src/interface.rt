@@ -10,6 +10,7 @@ use assertion_syntax::{ideal, quiet};
 use scald_base::{AssertSpec, ClockSpec, Header, Spans};
 use trace_sim::{skew_of, slot_back};
 
+/// The bit of a net at a tick, of its bits tick by tick: 0 after the last.
 pub fn bit_at(row: &[bool], t: usize) -> bool
     ensures { result ≡ row_signal row.now t }
 {

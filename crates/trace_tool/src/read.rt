@@ -172,7 +172,7 @@ fn name_length(alloc: Global, i: &Instance) -> Result<usize, NoMemory>
     Ok(name.len())
 }
 
-/// The delays that the numbers behind an instance's name are, whatever stands between them.
+/// The delays that the numbers after an instance's name are, whatever stands between them.
 fn guess(alloc: Global, i: &Instance, line: &[u8]) -> Result<((u16, u16), Indices), NoMemory>
     ensures { IfOk result (λ p. IsGuess i.now line.now p.0 p.1) }
 {

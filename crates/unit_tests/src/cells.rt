@@ -63,8 +63,10 @@ impl Cell for Slot {
     }
 }
 
+/// A slot in which nothing moves.
 pub const S: Slot = Slot::Still;
 
+/// A slot in which something moves.
 pub const M: Slot = Slot::Moving;
 
 /// Looks at each slot of a wave.

@@ -13,7 +13,7 @@ is_slash b = b == 47
 abbrev pub before_slash : List ℕ → ℕ
 before_slash text = prefix_len (λ b. not (is_slash b)) text
 
--- a scope of so many bytes, and what is behind its slash
+-- a scope of so many bytes, and what is after its slash
 abbrev pub cut_at : List ℕ → ℕ → Parts
 cut_at text at =
     record { scopes = take at text ∷ (parts_of (drop (suc at) text)).scopes; base = (parts_of (drop (suc at) text)).base }

@@ -8,7 +8,7 @@ use Rattle.value_change_dump.specs.Name.{Parts, parts_of}
 use Rattle.value_change_dump.specs.Scope.{both_moves, moves}
 use Rattle.value_change_dump.proofs.Names.{at_slash, is_slash, no_slash, to_none}
 
--- what is behind the slash at a place
+-- what is after the slash at a place
 abbrev pub rest_of : List ℕ → ℕ → List ℕ
 rest_of text at = take (length text - (at + 1)) (drop (at + 1) text)
 

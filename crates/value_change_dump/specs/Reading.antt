@@ -1,5 +1,5 @@
--- What a reader of a dump makes of its bytes: the commands that its lines say, and what a variable is
--- at a time by the rule of the format, the value that it was given last, at that time or before.
+-- What a reader of a dump makes of its bytes: the commands that its lines say, and what a variable
+-- is at a time by the rule of the format, the value that it was given last, at that time or before.
 use Rattle.std.specs.Prelude.{◌≡◌, ℕ, ◌-◌, ◌^◌, ◌<◌, ◌==◌, nat_le, Bool, List, [], ◌∷◌, length, map, codes, slice_index_or, if◌then◌else◌}
 use Rattle.std.specs.Str.{bytes_eq}
 use Rattle.std.specs.Str.Parse.{digits_value}

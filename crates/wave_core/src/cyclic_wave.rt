@@ -62,8 +62,8 @@ pub trait CyclicWave: Sized + Drop {
         (self.at(slot), self.same_until(slot))
     }
 
-    /// What `run_at` gives of the slot where so many runs end, without a search: for a walk from run
-    /// to run, which begins with no run at slot 0.
+    /// What `run_at` gives of the slot where so many runs end, without a search: for a walk from
+    /// run to run, which begins with no run at slot 0.
     fn run_after(&self, runs: usize, slot: u16) -> (Self::Item, u16)
         requires slot { slot < length (cells self.now) }
         requires runs { ends_at self.now runs slot }

@@ -1,4 +1,4 @@
-//! Waves over one period of the clock: a cell for each slot, where a cell is a set of steps that a
+//! Waves over one period of the clock: a cell for each slot, which is the set of steps that a
 //! net may make in it. Slots are counted round the period, so slot 0 follows the last.
 //!
 //! The layers above are generic over `CyclicWave`: its calls turn, map, join and compare waves of
