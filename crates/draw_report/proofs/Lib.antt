@@ -1,3 +1,17 @@
+pub mod Ranges
+pub mod Texts
+pub mod Writing
+pub mod Paths
+pub mod Strips
+pub mod Reading
+pub mod Whole
+pub mod Runs
+pub mod Places
+pub mod Clocks
+pub mod Cutting
+pub mod Showing
+pub mod Shading
+mod ExamplesPictures
 pub mod Seeking
 pub mod Replying
 pub mod OneAnswer

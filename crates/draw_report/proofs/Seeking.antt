@@ -11,7 +11,7 @@ use Rattle.timing_analysis.specs.Case.{Case, Listed, faults, faults_of, printed_
 use Rattle.timing_analysis.specs.Settled.{IsSettledCase, settled_case}
 use Rattle.program_call.specs.Reporter.{OfCases}
 use Rattle.program_call.proofs.Reporting.{of_more}
-use Rattle.wave_pictures.specs.Picture.{case_drawn}
+use Rattle.draw_report.specs.Picture.{case_drawn}
 use Rattle.draw_report.specs.declared.reply.Found.{Found}
 use Rattle.draw_report.specs.declared.reply.Found.TheVariants.{Much, Nothing, Picture}
 use Rattle.draw_report.specs.declared.reply.Sought.{Sought}

@@ -8,8 +8,8 @@ use Rattle.case_analysis.specs.Base.{base_round}
 use Rattle.timing_analysis.specs.Case.{Case, fault_count, listed_cases, printed_tick}
 use Rattle.program_call.specs.Answer.{verdict_of}
 use Rattle.program_call.specs.Reporter.{OfCases}
-use Rattle.wave_pictures.specs.declared.case.CaseHead.{CaseHead}
-use Rattle.wave_pictures.specs.Picture.{case_drawn}
+use Rattle.draw_report.specs.declared.case.CaseHead.{CaseHead}
+use Rattle.draw_report.specs.Picture.{case_drawn}
 use Rattle.draw_report.specs.declared.outcome.DrawOutcome.{DrawOutcome}
 use Rattle.draw_report.specs.declared.outcome.DrawOutcome.TheVariants.{Drawing, NoCase, TooMuch}
 use Rattle.draw_report.specs.declared.reply.Found.{Found}

@@ -1,3 +1,16 @@
+pub mod Xml
+pub mod Element
+pub mod Paper
+pub mod View
+pub mod Shape
+pub mod Wave
+pub mod Shown
+pub mod Row
+pub mod Grid
+pub mod Mark
+pub mod Caption
+pub mod Defs
+pub mod Picture
 pub mod Words
 pub mod Outcome
 pub mod Case

@@ -17,6 +17,7 @@ ghost use Rattle.draw_report.specs.Words.{IsWithin};
 
 use crate::outcome::DrawOutcome;
 use crate::request::Request;
+use crate::{CaseHead, case_picture, case_rows};
 use case_analysis::default_limit;
 use fixpoint_engine::{EngineEnd, Store, Waves};
 use flat_circuit::Circuit;
@@ -27,7 +28,6 @@ use std::alloc::Global;
 use step_values::Value;
 use timing_analysis::{Drawn, SettledBase, SettledCase, Subject, read_circuit};
 use wave_core::CyclicWave;
-use wave_pictures::{CaseHead, case_picture, case_rows};
 
 /// What was found of the case that is asked for.
 #[derive(Drop, Debug)]

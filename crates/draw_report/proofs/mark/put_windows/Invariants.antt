@@ -1,0 +1,11 @@
+use Rattle.std.proofs.Common.{take}
+use Rattle.std.specs.List.{flat_map}
+use Rattle.draw_report.specs.Paper.{Adds}
+use Rattle.draw_report.specs.Element.{all_written}
+use Rattle.draw_report.specs.Mark.{window_in}
+use Rattle.draw_report.proofs.mark.put_windows.Given as goal
+
+abbrev pub invariant-loop-mark : goal.invariant-loop-mark
+invariant-loop-mark l =
+    Adds l.fn.out l.out (flat_map (λ m. all_written (window_in l.view l.place m))
+    (take l.mark-index l.marks))

@@ -1,0 +1,8 @@
+use Rattle.std.proofs.Common.{◌≡◌, ◌++◌, take}
+use Rattle.std.specs.List.{filter}
+use Rattle.draw_report.specs.Row.{is_other_row}
+use Rattle.draw_report.proofs.row.add_others.Given as goal
+
+abbrev pub invariant-loop-row : goal.invariant-loop-row
+invariant-loop-row l =
+    l.rows ≡ l.fn.rows ++ filter (is_other_row l.c) (take l.row-index l.named)

@@ -1,5 +1,0 @@
-use Rattle.wave_pictures.proofs.Clocks.{AreMarked}
-use Rattle.wave_pictures.proofs.clock.clocks.Given as goal
-
-abbrev pub invariant-loop-number : goal.invariant-loop-number
-invariant-loop-number l = AreMarked l.c l.number l.clocks

@@ -1,9 +1,0 @@
-use Rattle.wave_pictures.specs.Mark.{bad_in}
-use Rattle.wave_pictures.proofs.Texts.{nodes_all}
-use Rattle.wave_pictures.proofs.mark.put_all_bad.Goals as goal
-
-pub returns : goal.returns
-returns c =
-    nodes_all (bad_in c.args.view c.args.place) c.args.marks.now c.loop-mark.mark-index
-    c.args.out.now
-    c.loop-mark.out c.loop-mark-test.false c.loop-mark.invariant

@@ -1,7 +1,0 @@
-use Rattle.wave_pictures.proofs.Whole.{adds_head}
-use Rattle.wave_pictures.proofs.picture.put_head.Goals as goal
-
-pub returns : goal.returns
-returns c =
-    adds_head c.args.frame.width c.args.frame.height c.args.frame.left c.args.heading.now
-    c.args.out.now c.put.new.self c.put.ensures

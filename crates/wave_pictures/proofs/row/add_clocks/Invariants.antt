@@ -1,8 +1,0 @@
-use Rattle.std.proofs.Common.{◌≡◌, ◌++◌, take}
-use Rattle.std.specs.List.{filter}
-use Rattle.wave_pictures.specs.Row.{is_clock_row}
-use Rattle.wave_pictures.proofs.row.add_clocks.Given as goal
-
-abbrev pub invariant-loop-row : goal.invariant-loop-row
-invariant-loop-row l =
-    l.rows ≡ l.fn.rows ++ filter (is_clock_row l.c) (take l.row-index l.named)

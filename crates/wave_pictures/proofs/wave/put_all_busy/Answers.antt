@@ -1,8 +1,0 @@
-use Rattle.wave_pictures.specs.Wave.{late_words}
-use Rattle.wave_pictures.proofs.Texts.{words_all}
-use Rattle.wave_pictures.proofs.wave.put_all_busy.Goals as goal
-
-pub returns : goal.returns
-returns c =
-    words_all (late_words c.args.scale) c.args.runs.now c.loop-run.run-index c.args.out.now
-    c.loop-run.out c.loop-run-test.false c.loop-run.invariant
