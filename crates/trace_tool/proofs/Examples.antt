@@ -10,11 +10,11 @@ use Rattle.trace_tool.specs.declared.words.Command.TheVariants.{Run, Judge}
 use Rattle.trace_tool.specs.declared.asked.Format.TheVariants.{Trace, Dump}
 use Rattle.trace_tool.specs.Outcome.{status_of}
 use Rattle.trace_tool.specs.Words.{asked, command_of, number_in}
-use Rattle.value_change_dump.specs.declared.tick.Count.{Count}
-use Rattle.value_change_dump.specs.declared.tick.Count.TheVariants.{One, Ten, Hundred}
-use Rattle.value_change_dump.specs.declared.tick.Unit.{Unit}
-use Rattle.value_change_dump.specs.declared.tick.Unit.TheVariants.{Seconds, Microseconds, Nanoseconds}
-use Rattle.value_change_dump.specs.declared.tick.TickLength.{TickLength}
+use Rattle.trace_tool.specs.declared.tick.Count.{Count}
+use Rattle.trace_tool.specs.declared.tick.Count.TheVariants.{One, Ten, Hundred}
+use Rattle.trace_tool.specs.declared.tick.Unit.{Unit}
+use Rattle.trace_tool.specs.declared.tick.Unit.TheVariants.{Seconds, Microseconds, Nanoseconds}
+use Rattle.trace_tool.specs.declared.tick.TickLength.{TickLength}
 
 -- ---- outcomes
 

@@ -1,3 +1,15 @@
+pub mod Texts
+pub mod Names
+pub mod Nets
+pub mod Levels
+pub mod Scopes
+pub mod DumpCutting
+pub mod Searching
+pub mod Codes
+pub mod DumpReading
+pub mod DumpLines
+mod ExamplesDump
+mod ExamplesDumpReading
 pub mod Agreeing
 pub mod Earliest
 pub mod Elements

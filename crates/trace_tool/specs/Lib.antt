@@ -1,3 +1,11 @@
+pub mod Tick
+pub mod Name
+pub mod Stretch
+pub mod Variable
+pub mod Scope
+pub mod Change
+pub mod Dump
+pub mod DumpReading
 pub mod Break
 pub mod Interface
 pub mod Pass

@@ -18,7 +18,7 @@ use Rattle.trace_tool.specs.Trace.{trace_text}
 use Rattle.trace_tool.specs.declared.asked.Asked.{Asked}
 use Rattle.trace_tool.specs.declared.asked.Format.{Format}
 use Rattle.trace_tool.specs.declared.asked.Format.TheVariants as format
-use Rattle.value_change_dump.specs.Dump.{dump_text}
+use Rattle.trace_tool.specs.Dump.{dump_text}
 use Rattle.trace_tool.specs.declared.outcome.TraceOutcome.{TraceOutcome}
 use Rattle.trace_tool.specs.declared.outcome.TraceOutcome.TheVariants.{Done, NoCase, Refused, TooBig}
 

@@ -8,10 +8,10 @@ use Rattle.trace_tool.specs.declared.words.Command.TheVariants.{Run, Judge}
 use Rattle.trace_tool.specs.declared.asked.Asked.{Asked}
 use Rattle.trace_tool.specs.declared.asked.Format.{Format}
 use Rattle.trace_tool.specs.declared.asked.Format.TheVariants.{Trace, Dump}
-use Rattle.value_change_dump.specs.declared.tick.Count.TheVariants.{One}
-use Rattle.value_change_dump.specs.declared.tick.Unit.TheVariants.{Nanoseconds}
-use Rattle.value_change_dump.specs.declared.tick.TickLength.{TickLength}
-use Rattle.value_change_dump.specs.Tick.{tick_of}
+use Rattle.trace_tool.specs.declared.tick.Count.TheVariants.{One}
+use Rattle.trace_tool.specs.declared.tick.Unit.TheVariants.{Nanoseconds}
+use Rattle.trace_tool.specs.declared.tick.TickLength.{TickLength}
+use Rattle.trace_tool.specs.Tick.{tick_of}
 
 -- ticks of a run, cases of a drawing, and the greatest seed
 abbrev pub most_ticks : ℕ

@@ -1,6 +1,6 @@
 //! What is asked of a run.
 
-use value_change_dump::TickLength;
+use crate::TickLength;
 
 /// How a run is written.
 #[derive(Clone, Copy, PartialEq, Eq, Debug)]

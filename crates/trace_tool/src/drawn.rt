@@ -10,7 +10,7 @@ ghost use Rattle.trace_tool.specs.Ran.{IsNamed, IsTraced, Ran, RanIn, RanOn, wri
 use crate::asked::{Asked, Format};
 use crate::outcome::TraceOutcome;
 use crate::replies::{refused, silent};
-use crate::{Trace, write_trace};
+use crate::{Trace, write_dump, write_trace};
 use flat_circuit::{Case, CaseList, Circuit};
 use listing::Output;
 use macro_expander::expanded;
@@ -19,7 +19,6 @@ use scald_base::{Bytes, NoMemory, Stop};
 use std::alloc::Global;
 use timing_analysis::{Drawn, circuit_of, read_text};
 use trace_sim::{draw, simulate};
-use value_change_dump::write_dump;
 
 /// The most bits of a run that is written.
 const MOST_BITS: u64 = 4_000_000;

@@ -11,6 +11,12 @@
 //! nothing drives and that does not keep its assertion (`specs/Interface`), and [`first_break`]
 //! what is broken first from a tick on (`specs/Break`), in one pass for each element
 //! (`specs/Pass`).
+//!
+//! [`write_dump`] writes the levels of a run as a value change dump (IEEE 1364), which wave viewers
+//! read. A variable is a stretch of bits of one name side by side (`specs/Stretch`), declared in
+//! the scopes of its path (`specs/Scope`, `specs/Variable`); its values are those of the run at the
+//! ticks at which they change (`specs/Change`). `specs/Dump` says which bytes these are, and
+//! [`dump_laws`] that a reader of a dump finds every bit (`specs/DumpReading`).
 #![tactic(auto)]
 
 // the text of a trace
@@ -34,6 +40,23 @@ mod step;
 mod stray;
 mod window;
 
+// a dump: names and lengths
+mod name;
+mod tick;
+
+// its variables
+mod code;
+mod reference;
+mod scope;
+mod stretch;
+mod variable;
+
+// its values
+mod change;
+mod dump;
+pub mod dump_laws;
+mod level;
+
 // words and outcomes
 mod asked;
 mod outcome;
@@ -52,6 +75,7 @@ mod simulator;
 pub use asked::{Asked, Format};
 pub use call::trace_main;
 pub use drawn::run;
+pub use dump::write_dump;
 pub use element::Element;
 pub use first::first_break;
 pub use judged::judge;
@@ -60,6 +84,7 @@ pub use simulator::Simulator;
 pub use split::split_trace;
 pub use stray::first_stray;
 pub use take::read_trace;
+pub use tick::{Count, TickLength, Unit};
 pub use trace::{Trace, TraceFault};
 pub use words::{Command, read_words};
 pub use write::write_trace;

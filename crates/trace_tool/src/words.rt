@@ -4,10 +4,10 @@ ghost use Rattle.std.specs.Prelude.{◌≡◌, ◌-◌, ◌^◌, ◌≤◌, IfOk
 ghost use Rattle.scald_lex.specs.Bytes.{value_of};
 ghost use Rattle.trace_tool.specs.Words.{IsWithin, alone, after_case, after_judge, after_run, after_seed, after_ticks, case_of, command_of, number_in, tick_asked};
 
+use crate::TickLength;
 use crate::asked::{Asked, Format};
 use itoa::Buffer;
 use scald_base::{Bytes, Words};
-use value_change_dump::TickLength;
 
 /// The most ticks of a run.
 const MOST_TICKS: u64 = 4096;

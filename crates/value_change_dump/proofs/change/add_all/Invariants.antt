@@ -1,7 +1,0 @@
-use Rattle.std.proofs.Common.{◌≡◌, ◌++◌, take}
-use Rattle.std.specs.List.{flat_map}
-use Rattle.value_change_dump.proofs.Texts.{all_text}
-use Rattle.value_change_dump.proofs.change.add_all.Given as goal
-
-abbrev pub invariant-loop-s : goal.invariant-loop-s
-invariant-loop-s l = l.out ≡ l.fn.out ++ flat_map (all_text l.c l.rows l.tick) (take l.s-index l.all)

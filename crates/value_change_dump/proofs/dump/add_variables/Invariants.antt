@@ -1,7 +1,0 @@
-use Rattle.std.proofs.Common.{◌≡◌, ◌++◌, take}
-use Rattle.std.specs.List.{flat_map}
-use Rattle.value_change_dump.specs.Dump.{declared_text}
-use Rattle.value_change_dump.proofs.dump.add_variables.Given as goal
-
-abbrev pub invariant-loop-s : goal.invariant-loop-s
-invariant-loop-s l = l.out ≡ l.fn.out ++ flat_map (declared_text l.c) (take l.s-index l.all)

@@ -1,5 +1,0 @@
-use Rattle.std.proofs.Common.{length}
-use Rattle.value_change_dump.proofs.scope.+add_opens.Given as goal
-
-abbrev pub decreases-add_opens : goal.decreases-add_opens
-decreases-add_opens l = length l.name.now

@@ -1,8 +1,0 @@
-pub mod Tick
-pub mod Name
-pub mod Stretch
-pub mod Variable
-pub mod Scope
-pub mod Change
-pub mod Dump
-pub mod Reading
