@@ -4,8 +4,8 @@ use Rattle.std.specs.List.{flat_map, range_with_len}
 use Rattle.std.proofs.lemmas.List.FromFn.{get_or-map-range_with_len, length-range_with_len}
 use Rattle.std.proofs.lemmas.List.{length-map}
 use Rattle.flat_circuit.specs.declared.case.CaseValue.{CaseValue}
-use Rattle.case_cover.specs.Same.{first_same, firsts_same}
-use Rattle.case_cover.specs.Open.{is_open}
+use Rattle.drawing_omissions.specs.Same.{first_same, firsts_same}
+use Rattle.drawing_omissions.specs.Open.{is_open}
 use Rattle.drawing_omissions.specs.Lines.{Adds, Lines}
 use Rattle.drawing_omissions.specs.CaseNotes.{case_notes, open_if, same_at, same_in, same_to, sames}
 use Rattle.drawing_omissions.proofs.Adding.{adds_both, lines_more}

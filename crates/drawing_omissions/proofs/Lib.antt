@@ -1,3 +1,6 @@
+pub mod Finding
+pub mod AddingHeld
+mod ExamplesCases
 pub mod Adding
 pub mod Anys
 pub mod Written

@@ -14,7 +14,7 @@ use Rattle.flat_circuit.specs.Name.{AreDistinct, IsNumber, Name, name_at}
 use Rattle.flat_circuit.specs.Circuit.{Circuit, net_name, net_names}
 use Rattle.drawing_omissions.specs.declared.case_bits.CaseBit.{CaseBit}
 use Rattle.drawing_omissions.specs.CaseBits.{case_values, is_its_net, is_named_by, listed, value_for, value_of, values_of}
-use Rattle.case_cover.specs.Same.{AreWithin}
+use Rattle.drawing_omissions.specs.Same.{AreWithin}
 use Rattle.drawing_omissions.specs.Near.{first_or}
 use Rattle.drawing_omissions.proofs.Nearing.{find_last}
 

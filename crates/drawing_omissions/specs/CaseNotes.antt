@@ -2,8 +2,8 @@
 use Rattle.std.specs.Prelude.{ℕ, ◌+◌, Bool, List, [], ◌∷◌, ◌++◌, length, codes, decimal, slice_index_or, if◌then◌else◌, Option, Some, None}
 use Rattle.std.specs.List.{flat_map, range_with_len}
 use Rattle.flat_circuit.specs.declared.case.CaseValue.{CaseValue}
-use Rattle.case_cover.specs.Same.{first_same}
-use Rattle.case_cover.specs.Open.{is_open}
+use Rattle.drawing_omissions.specs.Same.{first_same}
+use Rattle.drawing_omissions.specs.Open.{is_open}
 use Rattle.listing.specs.Text.{line}
 
 -- ---- cases that stand twice

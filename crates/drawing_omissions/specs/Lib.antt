@@ -1,3 +1,5 @@
+pub mod Same
+pub mod Open
 pub mod Lines
 pub mod Read
 pub mod Loose

@@ -2,7 +2,7 @@
 
 ghost use Rattle.std.specs.Prelude.{◌≡◌, ◌++◌, [], IfOk, OnOk, codes, if◌then◌else◌, length, map};
 ghost use Rattle.drawing_omissions.specs.CaseBits.{bit_of, bits_of, case_values as spec_case_values, listed, value_of as spec_value_of, values_of as spec_values_of};
-ghost use Rattle.case_cover.specs.Same.{AreWithin};
+ghost use Rattle.drawing_omissions.specs.Same.{AreWithin};
 
 use drawing_tree::{CaseEntry, CaseStmt, Drawing};
 use flat_circuit::{Case, CaseList, CaseValue, Circuit};

@@ -2,11 +2,11 @@
 
 ghost use Rattle.std.specs.Prelude.{◌≡◌, ◌+◌, IfOk, OnOk};
 ghost use Rattle.drawing_omissions.specs.Lines.{Adds};
-ghost use Rattle.case_cover.specs.Same.{AreWithin};
+ghost use Rattle.drawing_omissions.specs.Same.{AreWithin};
 ghost use Rattle.drawing_omissions.specs.CaseNotes.{case_notes, open_if, same_to, sames};
 
 use crate::notes::Notes;
-use case_cover::{firsts_same, is_open};
+use crate::{firsts_same, is_open};
 use flat_circuit::Case;
 use listing::Piece;
 use scald_base::NoMemory;

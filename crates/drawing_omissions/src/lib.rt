@@ -9,7 +9,17 @@
 //! [`case_values`] has what the cases give to nets (`specs/CaseBits`).
 //!
 //! [`Omissions`] are numbers of what is left out, for the line that stands beside a verdict.
+//!
+//! [`firsts_same`] finds which cases stand twice (`specs/Same`), and [`is_open`] whether some bits
+//! of the nets that they name are in none (`specs/Open`).
 #![tactic(auto)]
+
+// what the cases cover
+mod held;
+mod named;
+mod open;
+mod parts;
+mod same;
 
 // lines
 mod notes;
@@ -41,7 +51,9 @@ pub use names::add_names;
 pub use near::Near;
 pub use notes::Notes;
 pub use omissions::Omissions;
+pub use open::is_open;
 pub use read::read_nets;
+pub use same::firsts_same;
 pub use spread::{Finding, Findings, Reached, Spread};
 pub use spread_notes::add_spread;
 pub use walk::spreads;

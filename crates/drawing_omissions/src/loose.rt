@@ -5,7 +5,7 @@ ghost use Rattle.flat_circuit.specs.declared.case.CaseValue.{CaseValue};
 ghost use Rattle.std.specs.List.{All};
 ghost use Rattle.fixpoint_engine.specs.Settled.{marked_in};
 ghost use Rattle.drawing_omissions.specs.Read.{AreRead};
-ghost use Rattle.case_cover.specs.Same.{AreWithin};
+ghost use Rattle.drawing_omissions.specs.Same.{AreWithin};
 ghost use Rattle.drawing_omissions.specs.Loose.{AreSet, is_free as spec_is_free, is_given as spec_is_given, is_loose as spec_is_loose, loose_nets as spec_loose_nets, name_of as spec_name_of, sets};
 
 use crate::read::read_nets;

@@ -1,7 +1,7 @@
 //! The notes on nets that nothing determines.
 
 ghost use Rattle.std.specs.Prelude.{◌≡◌, OnOk, length};
-ghost use Rattle.case_cover.specs.Same.{AreWithin};
+ghost use Rattle.drawing_omissions.specs.Same.{AreWithin};
 ghost use Rattle.drawing_omissions.specs.Lines.{Adds};
 ghost use Rattle.drawing_omissions.specs.Names.{name_notes};
 

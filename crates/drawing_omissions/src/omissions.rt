@@ -1,7 +1,7 @@
 //! How much a drawing leaves out, in numbers.
 
 ghost use Rattle.std.specs.Prelude.{length};
-ghost use Rattle.case_cover.specs.Same.{AreWithin};
+ghost use Rattle.drawing_omissions.specs.Same.{AreWithin};
 ghost use Rattle.drawing_tree.specs.Tree.{drawing_of};
 ghost use Rattle.drawing_tree.specs.WellFormed.{IsWellFormed};
 

@@ -2,7 +2,7 @@ use Rattle.std.proofs.Common.{ℕ, List, length, ap, sym, subst, ◌∙◌}
 use Rattle.std.proofs.lemmas.Result.{on_ok_weaker}
 use Rattle.scald_base.specs.declared.refusal.Place.{Place}
 use Rattle.flat_circuit.specs.declared.case.CaseValue.{CaseValue}
-use Rattle.case_cover.specs.Same.{AreWithin}
+use Rattle.drawing_omissions.specs.Same.{AreWithin}
 use Rattle.drawing_omissions.specs.declared.spread.Finding.{Finding}
 use Rattle.drawing_omissions.specs.Lines.{Adds}
 use Rattle.drawing_omissions.specs.CaseBits.{case_values}

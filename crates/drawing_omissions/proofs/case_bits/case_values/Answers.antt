@@ -1,5 +1,5 @@
 use Rattle.std.proofs.Common.{◌∙◌, length, take, ap, subst, sym}
-use Rattle.case_cover.specs.Same.{AreWithin}
+use Rattle.drawing_omissions.specs.Same.{AreWithin}
 use Rattle.drawing_omissions.specs.CaseBits.{values_of}
 use Rattle.drawing_omissions.proofs.Valuing.{are_within, pushed_more}
 use Rattle.drawing_omissions.proofs.case_bits.case_values.Goals as goal

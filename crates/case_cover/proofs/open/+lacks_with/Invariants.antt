@@ -1,5 +1,0 @@
-use Rattle.std.proofs.Common.{length}
-use Rattle.case_cover.proofs.open.+lacks_with.Given as goal
-
-abbrev pub decreases-lacks_with : goal.decreases-lacks_with
-decreases-lacks_with l = length l.nets.now

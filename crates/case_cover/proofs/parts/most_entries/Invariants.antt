@@ -1,6 +1,0 @@
-use Rattle.std.proofs.Common.{◌≡◌, take}
-use Rattle.case_cover.specs.Open.{most_entries}
-use Rattle.case_cover.proofs.parts.most_entries.Given as goal
-
-abbrev pub invariant-loop-case : goal.invariant-loop-case
-invariant-loop-case l = l.most ≡ most_entries (take l.case-index l.cases)

@@ -1,6 +1,0 @@
-use Rattle.std.proofs.Common.{◌≡◌, ◌<◌, ℕ, false}
-use Rattle.case_cover.specs.Same.{is_same_at}
-use Rattle.case_cover.proofs.same.first_same.Given as goal
-
-abbrev pub invariant-loop-earlier : goal.invariant-loop-earlier
-invariant-loop-earlier l = (j : ℕ) → j < l.earlier → is_same_at l.cases l.place j ≡ false
