@@ -1,3 +1,9 @@
+pub mod Sharing
+pub mod Mapping
+pub mod Tabling
+pub mod Keying
+pub mod Splitting
+mod ExamplesSlips
 pub mod Finding
 pub mod AddingHeld
 mod ExamplesCases

@@ -1,3 +1,7 @@
+pub mod Slip
+pub mod Alike
+pub mod Keys
+pub mod Table
 pub mod Same
 pub mod Open
 pub mod Lines

@@ -12,7 +12,20 @@
 //!
 //! [`firsts_same`] finds which cases stand twice (`specs/Same`), and [`is_open`] whether some bits
 //! of the nets that they name are in none (`specs/Open`).
+//!
+//! [`is_alike`], [`is_even`] and [`is_uneven`] say of two names whether they are one slip of the
+//! hand apart (`specs/Slip`, `specs/Alike`). A [`Table`] has names, each under a number, and gives
+//! of another name the numbers of all names that may be near to it, without looking at the others:
+//! names that are near have a key in common (`specs/Keys`). A [`Sieve`] rules out most names that
+//! are near to none of its own at a small part of that cost; nothing is promised of it.
 #![tactic(auto)]
+
+// names that are near
+mod alike;
+mod keys;
+mod sieve;
+mod slip;
+mod table;
 
 // what the cases cover
 mod held;
@@ -44,6 +57,7 @@ mod width;
 // numbers alone
 mod omissions;
 
+pub use alike::{is_alike, is_even, is_uneven};
 pub use case_bits::{CaseBit, CaseBits, case_values, written_cases};
 pub use case_notes::add_cases;
 pub use fors::{add_empty, for_places};
@@ -54,6 +68,8 @@ pub use omissions::Omissions;
 pub use open::is_open;
 pub use read::read_nets;
 pub use same::firsts_same;
+pub use sieve::Sieve;
 pub use spread::{Finding, Findings, Reached, Spread};
 pub use spread_notes::add_spread;
+pub use table::Table;
 pub use walk::spreads;

@@ -5,6 +5,7 @@ ghost use Rattle.drawing_omissions.specs.Same.{AreWithin};
 ghost use Rattle.drawing_tree.specs.Tree.{drawing_of};
 ghost use Rattle.drawing_tree.specs.WellFormed.{IsWellFormed};
 
+use crate::Sieve;
 use crate::case_notes::add_cases;
 use crate::fors::{add_empty, for_places};
 use crate::loose::{is_given, loose_nets, name_of, set_nets};
@@ -18,7 +19,6 @@ use fixpoint_engine::NetSet;
 use flat_circuit::{Case, Circuit};
 use macro_expander::constants::constants;
 use macro_expander::turn::loop_ends;
-use name_slips::Sieve;
 use scald_base::{Bytes, NoMemory, Place};
 use std::alloc::Global;
 

@@ -1,4 +1,0 @@
-pub mod Slip
-pub mod Names
-pub mod Keys
-pub mod Table
