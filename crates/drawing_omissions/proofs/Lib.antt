@@ -4,7 +4,7 @@ pub mod Tabling
 pub mod Keying
 pub mod Splitting
 mod ExamplesSlips
-pub mod Finding
+pub mod FindingHeld
 pub mod AddingHeld
 mod ExamplesCases
 pub mod Adding

@@ -1,7 +1,7 @@
 use Rattle.std.proofs.Common.{[], sym, ◌∙◌, arith}
 use Rattle.std.proofs.lemmas.List.{get_or_read}
 use Rattle.drawing_omissions.specs.Same.{is_same_at}
-use Rattle.drawing_omissions.proofs.Finding.{first_passes, none_passes, same_here}
+use Rattle.drawing_omissions.proofs.FindingHeld.{first_passes, none_passes, same_here}
 use Rattle.drawing_omissions.proofs.same.first_same.Goals as goal
 
 pub returns-then-has_all : goal.returns-then-has_all
