@@ -4,8 +4,6 @@ use Rattle.std.specs.Prelude.{◌↔◌, is_some, slice_get}
 use Rattle.std.specs.List.{AllByRecursion, filter_map, list_any, range_with_len}
 use Rattle.std.proofs.lemmas.List.Folds.{list_any-append}
 use Rattle.std.proofs.lemmas.Option.{slice_get_within}
-use Rattle.element_kinds.specs.declared.kind.Kind.{Kind}
-use Rattle.element_kinds.specs.declared.kind.Kind.TheVariants.{Buf, And, Or, Xor, Mux2, Mux4, Mux8, Chg, Reg, RegRs, Latch, LatchRs, SetupHold, RiseFall, MinPulse}
 use Rattle.element_kinds.specs.declared.form.Check.{Check}
 use Rattle.element_kinds.specs.declared.form.Check.TheVariants.{SetupHold as AboutRise, RiseFall as RiseToFall, MinPulse as Widths}
 use Rattle.element_kinds.specs.Kinds.{check_of, checks_points, checks_pulses, checks_so, is_at_edges, is_of_widths, may_be_marked}
@@ -35,103 +33,8 @@ use Rattle.slack_rows.proofs.Gates.{marks_break_with_faults}
 use Rattle.slack_rows.proofs.Nets.{nets_break_with_faults}
 use Rattle.slack_rows.proofs.Pulses.{widths_break_with_faults}
 use Rattle.slack_report.specs.Answer.{fault_total}
-use Rattle.slack_report.proofs.Tests.{any_each, any_flat, any_map, any_or, any_swap, none_in_sum, or_none, or_same, same_test, some_append, some_filtered, some_flat, some_of}
-
--- ---- kinds
-
-abbrev by_check : (Check → Bool) → Kind → Bool
-by_check test kind = checks_so test (check_of kind)
-
-points_by : (kind : Kind) → checks_points kind ≡ by_check is_at_edges kind
-points_by Buf = refl
-points_by And = refl
-points_by Or = refl
-points_by Xor = refl
-points_by Mux2 = refl
-points_by Mux4 = refl
-points_by Mux8 = refl
-points_by Chg = refl
-points_by Reg = refl
-points_by RegRs = refl
-points_by Latch = refl
-points_by LatchRs = refl
-points_by SetupHold = refl
-points_by RiseFall = refl
-points_by MinPulse = refl
-
-pulses_by : (kind : Kind) → checks_pulses kind ≡ by_check is_of_widths kind
-pulses_by Buf = refl
-pulses_by And = refl
-pulses_by Or = refl
-pulses_by Xor = refl
-pulses_by Mux2 = refl
-pulses_by Mux4 = refl
-pulses_by Mux8 = refl
-pulses_by Chg = refl
-pulses_by Reg = refl
-pulses_by RegRs = refl
-pulses_by Latch = refl
-pulses_by LatchRs = refl
-pulses_by SetupHold = refl
-pulses_by RiseFall = refl
-pulses_by MinPulse = refl
-
-marked_checks : (kind : Kind) → may_be_marked kind ≡ true → check_of kind ≡ None
-marked_checks Buf marks = refl
-marked_checks And marks = refl
-marked_checks Or marks = refl
-marked_checks Xor marks = refl
-marked_checks Mux2 marks = refl
-marked_checks Mux4 marks = refl
-marked_checks Mux8 marks = refl
-marked_checks Chg marks = refl
-marked_checks Reg marks = refl
-marked_checks RegRs marks = refl
-marked_checks Latch marks = refl
-marked_checks LatchRs marks = refl
-marked_checks SetupHold marks = absurd (cc)
-marked_checks RiseFall marks = absurd (cc)
-marked_checks MinPulse marks = absurd (cc)
-
--- ---- two and three tests
-
-in_two : (a b : Bool) → (a || (b || false)) ≡ true → (a ≡ true) ⊎ (b ≡ true)
-in_two true b is = inl refl
-in_two false true is = inr refl
-in_two false false is = absurd (cc)
-
-of_two : (a b : Bool) → (a ≡ true) ⊎ (b ≡ true) → (a || (b || false)) ≡ true
-of_two true b is = refl
-of_two false true is = refl
-of_two false false (inl is) = absurd (cc)
-of_two false false (inr is) = absurd (cc)
-
-in_three : (a b d : Bool) → (a || (b || (d || false))) ≡ true →
-    (a ≡ true) ⊎ ((b ≡ true) ⊎ (d ≡ true))
-in_three true b d is = inl refl
-in_three false b d is = inr (in_two b d is)
-
-of_three : (a b d : Bool) → (a ≡ true) ⊎ ((b ≡ true) ⊎ (d ≡ true)) →
-    (a || (b || (d || false))) ≡ true
-of_three true b d is = refl
-of_three false b d (inl is) = absurd (cc)
-of_three false b d (inr is) = of_two b d is
-
-two_are : (f a b : Bool) → (f ≡ true) ↔ ((a ≡ true) ⊎ (b ≡ true)) → (a || (b || false)) ≡ f
-two_are f a b law =
-    same_test (a || (b || false)) f (λ found. law.1 (in_two a b found)) (λ is. of_two a b (law.0 is))
-
-three_are : (f a b d : Bool) → (f ≡ true) ↔ ((a ≡ true) ⊎ ((b ≡ true) ⊎ (d ≡ true))) →
-    (a || (b || (d || false))) ≡ f
-three_are f a b d law =
-    same_test (a || (b || (d || false))) f (λ found. law.1 (in_three a b d found))
-    (λ is. of_three a b d (law.0 is))
-
--- no test passes, whatever else is there
-none_is : (f a b d : Bool) → (f ≡ true) ↔ ((a ≡ true) ⊎ ((b ≡ true) ⊎ (d ≡ true))) →
-    a ≡ false → b ≡ false → d ≡ false → false ≡ f
-none_is f a b d law first second third =
-    sym ((λ i. first i || (second i || (third i || false)))) ∙ three_are f a b d law
+use Rattle.slack_report.proofs.Checking.{marked_checks, points_by, pulses_by}
+use Rattle.slack_report.proofs.Tests.{any_each, any_flat, any_map, any_or, any_swap, none_in_sum, none_is, or_none, or_same, same_test, some_append, some_filtered, some_flat, some_of, three_are, two_are}
 
 -- ---- in the waves of a case
 

@@ -2,6 +2,7 @@ pub mod Gathered
 pub mod Hazards
 pub mod Lawful
 pub mod Tests
+pub mod Checking
 pub mod Agreeing
 pub mod Rowed
 pub mod Promised

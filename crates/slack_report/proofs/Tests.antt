@@ -1,6 +1,6 @@
--- Tests over lists of lists: whether some item passes.
-use Rattle.std.proofs.Common.{◌≡◌, ◌∙◌, ℕ, ◌+◌, ◌==◌, Bool, true, false, not, ◌&&◌, ◌||◌, List, [], ◌∷◌, ◌++◌, length, map, refl, sym, ap, arith, Option, Some, None}
-use Rattle.std.specs.Prelude.{is_some}
+-- Tests over lists of lists, whether some item passes, and two and three tests.
+use Rattle.std.proofs.Common.{inl, inr, ◌≡◌, ◌∙◌, ◌⊎◌, ℕ, ◌+◌, ◌==◌, Bool, true, false, not, ◌&&◌, ◌||◌, List, [], ◌∷◌, ◌++◌, length, map, refl, sym, ap, arith, Option, Some, None}
+use Rattle.std.specs.Prelude.{◌↔◌, is_some}
 use Rattle.std.specs.List.{cons_option, filter_map, flat_map, list_any, sum_by}
 use Rattle.std.proofs.lemmas.List.Folds.{list_any-append}
 use Rattle.std.proofs.lemmas.List.Sums.{sum_by-cons}
@@ -114,3 +114,43 @@ none_in_sum f (x ∷ xs) =
     ∙ ap (λ (b : Bool). b && (sum_by (λ x. length (f x)) xs == 0)) (none_counted (f x))
     ∙ ap (λ (b : Bool). not (some_of (f x)) && b) (none_in_sum f xs)
     ∙ not_or (some_of (f x)) (list_any (λ x. some_of (f x)) xs)
+
+-- ---- two and three tests
+
+in_two : (a b : Bool) → (a || (b || false)) ≡ true → (a ≡ true) ⊎ (b ≡ true)
+in_two true b is = inl refl
+in_two false true is = inr refl
+in_two false false is = absurd (cc)
+
+of_two : (a b : Bool) → (a ≡ true) ⊎ (b ≡ true) → (a || (b || false)) ≡ true
+of_two true b is = refl
+of_two false true is = refl
+of_two false false (inl is) = absurd (cc)
+of_two false false (inr is) = absurd (cc)
+
+in_three : (a b d : Bool) → (a || (b || (d || false))) ≡ true →
+    (a ≡ true) ⊎ ((b ≡ true) ⊎ (d ≡ true))
+in_three true b d is = inl refl
+in_three false b d is = inr (in_two b d is)
+
+of_three : (a b d : Bool) → (a ≡ true) ⊎ ((b ≡ true) ⊎ (d ≡ true)) →
+    (a || (b || (d || false))) ≡ true
+of_three true b d is = refl
+of_three false b d (inl is) = absurd (cc)
+of_three false b d (inr is) = of_two b d is
+
+pub two_are : (f a b : Bool) → (f ≡ true) ↔ ((a ≡ true) ⊎ (b ≡ true)) → (a || (b || false)) ≡ f
+two_are f a b law =
+    same_test (a || (b || false)) f (λ found. law.1 (in_two a b found)) (λ is. of_two a b (law.0 is))
+
+pub three_are : (f a b d : Bool) → (f ≡ true) ↔ ((a ≡ true) ⊎ ((b ≡ true) ⊎ (d ≡ true))) →
+    (a || (b || (d || false))) ≡ f
+three_are f a b d law =
+    same_test (a || (b || (d || false))) f (λ found. law.1 (in_three a b d found))
+    (λ is. of_three a b d (law.0 is))
+
+-- no test passes, whatever else is there
+pub none_is : (f a b d : Bool) → (f ≡ true) ↔ ((a ≡ true) ⊎ ((b ≡ true) ⊎ (d ≡ true))) →
+    a ≡ false → b ≡ false → d ≡ false → false ≡ f
+none_is f a b d law first second third =
+    sym ((λ i. first i || (second i || (third i || false)))) ∙ three_are f a b d law
