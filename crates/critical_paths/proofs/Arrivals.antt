@@ -42,7 +42,7 @@ use Rattle.critical_paths.specs.Arrival.{Arrival, all_of, arrival_at, arrivals_b
 use Rattle.critical_paths.specs.Views.{delay_by as delay_of, delay_of_step, end_at, passing, ticks_of_region}
 use Rattle.critical_paths.specs.Reached.{AddsThrough, AreArrivals, AreThrough, KeepsArrivals, KnowsArrivals, age_at, behind_at, behind_net, behind_pin, end_time, gathered, known_of, later, of_clock, range_of, range_within, same_place, through_of, time_of, times, times_in, with_all, with_later, with_one}
 use Rattle.critical_paths.proofs.Cutting.{two_are, two_none}
-use Rattle.critical_paths.proofs.Gathered.{clock_append, clock_furthest, clock_later, one_of, told}
+use Rattle.critical_paths.proofs.Gathered.{clock_append, clock_furthest, clock_later, one_of, noted}
 use Rattle.critical_paths.proofs.Places.{place_is}
 use Rattle.critical_paths.proofs.Ticks.{slot_pos}
 
@@ -431,7 +431,7 @@ module _ (c : Circuit) (ws : Waves) (place : Place) (some : 0 < period c.header)
   ends_are own [] = refl
   ends_are own (r ∷ rs) =
       one_of place.clock (arrival_at c place.corner place.direction place.net (end_of place.corner r)) _
-      ∙ ap (λ (b : Bool). cond b (told place.clock (arrival_at c place.corner place.direction place.net (end_of place.corner r))
+      ∙ ap (λ (b : Bool). cond b (noted place.clock (arrival_at c place.corner place.direction place.net (end_of place.corner r))
       ∷ of_clock place.clock (map (λ r. arrival_at c place.corner place.direction place.net (end_of place.corner r)) rs))
       (of_clock place.clock (map (λ r. arrival_at c place.corner place.direction place.net (end_of place.corner r)) rs)))
       (eq-eqb place.net place.clock own)
@@ -465,7 +465,7 @@ module _ (c : Circuit) (ws : Waves) (place : Place) (some : 0 < period c.header)
       none [] = refl
       none (r ∷ rs) =
           one_of place.clock (arrival_at c place.corner place.direction place.net (end_of place.corner r)) _
-          ∙ ap (λ (b : Bool). cond b (told place.clock (arrival_at c place.corner place.direction place.net (end_of place.corner r))
+          ∙ ap (λ (b : Bool). cond b (noted place.clock (arrival_at c place.corner place.direction place.net (end_of place.corner r))
           ∷ of_clock place.clock (map (λ r. arrival_at c place.corner place.direction place.net (end_of place.corner r)) rs))
           (of_clock place.clock (map (λ r. arrival_at c place.corner place.direction place.net (end_of place.corner r)) rs))) other
           ∙ none rs

@@ -113,12 +113,12 @@ module _ (c : Circuit) (ws : Waves) (j : Instance) (corner : Corner) (d : Direct
       ∙ ap (λ (o : ℕ). option_map (arc o n)
       (cause_of c ws j corner d (back (period c.header) (slot_of (period c.header) tick) o))) is
 
-  pub arc_tried : (n late : ℕ) (found : Option Cause) (told : Option Arc) → late
+  pub arc_tried : (n late : ℕ) (found : Option Cause) (noted : Option Arc) → late
       ≡ inward corner delay n → found ≡ caused late →
-      told ≡ option_map (arc_off late (nat_lt 0 n)) found →
-      told ≡ arc_inward c ws j corner d (slot_of (period c.header) tick) delay n
-  arc_tried n late found told is by told_is =
-      told_is ∙ off found ∙ ap (option_map (arc late n)) by ∙ tried n late is
+      noted ≡ option_map (arc_off late (nat_lt 0 n)) found →
+      noted ≡ arc_inward c ws j corner d (slot_of (period c.header) tick) delay n
+  arc_tried n late found noted is by noted_is =
+      noted_is ∙ off found ∙ ap (option_map (arc late n)) by ∙ tried n late is
     where
       off : (o : Option Cause) → option_map (arc_off late (nat_lt 0 n)) o
           ≡ option_map (arc late n) o

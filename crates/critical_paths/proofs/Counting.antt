@@ -131,9 +131,9 @@ module _ (c : Circuit) (end : End) where
       ∙ sym (ap (λ (l : List Node). out ++ parts_from l) (drop_end way place past)) ∙ so_far
 
 -- of what the node of a number tells
-pub parts_told : (c : Circuit) (nodes : List Node) (i : ℕ) (n : Node) → slice_get nodes i ≡ Some n →
+pub parts_noted : (c : Circuit) (nodes : List Node) (i : ℕ) (n : Node) → slice_get nodes i ≡ Some n →
     Some (parts_from c (end_of n.end) (way_of nodes i)) ≡ option_map (parts c) (path_known nodes i)
-parts_told c nodes i n at =
+parts_noted c nodes i n at =
     ap (λ (o : Option Node). Some (parts_from c (end_of n.end) (way_by nodes o))) at
     ∙ sym (ap Some (parts_are c (end_of n.end) n (rest_of nodes n)))
     ∙ sym (ap (λ (o : Option Node). option_map (parts c) (known_by nodes o)) at)
@@ -236,21 +236,21 @@ module _ (other : List Counted) where
 
   -- one place more
   pub twice_more : (own : List Counted) (place : ℕ) (twice now all : List Counted) (x : Counted)
-      (told : Bool) → slice_get own place ≡ Some x →
-      told ≡ is_twice (take place own) other x → now ≡ cond told (twice ++ x ∷ []) twice →
+      (noted : Bool) → slice_get own place ≡ Some x →
+      noted ≡ is_twice (take place own) other x → now ≡ cond noted (twice ++ x ∷ []) twice →
       twice ++ left_of (take place own) (drop place own) ≡ all →
       now ++ left_of (take (place + 1) own) (drop (place + 1) own) ≡ all
-  twice_more own place twice now all x told at told_is now_is so_far =
+  twice_more own place twice now all x noted at noted_is now_is so_far =
       let seen = take place own in
       let rest = drop (place + 1) own in
       let inside = slice_get_within own place x at in
       let taken : take (place + 1) own ≡ seen ++ x ∷ [] =
       take_more own place x inside
       ∙ ap (λ (y : Counted). seen ++ y ∷ []) (get_or_from_slice_get own place x x at) in
-      ap (λ (l : List Counted). l ++ left_of (take (place + 1) own) rest) (now_is ∙ put told)
-      ∙ append_assoc twice (added told x) (left_of (take (place + 1) own) rest)
-      ∙ ap (λ (l : List Counted). twice ++ (added told x ++ left_of l rest)) taken
-      ∙ ap (λ (b : Bool). twice ++ (added b x ++ left_of (seen ++ x ∷ []) rest)) told_is
+      ap (λ (l : List Counted). l ++ left_of (take (place + 1) own) rest) (now_is ∙ put noted)
+      ∙ append_assoc twice (added noted x) (left_of (take (place + 1) own) rest)
+      ∙ ap (λ (l : List Counted). twice ++ (added noted x ++ left_of l rest)) taken
+      ∙ ap (λ (b : Bool). twice ++ (added b x ++ left_of (seen ++ x ∷ []) rest)) noted_is
       ∙ sym (ap (λ (l : List Counted). twice ++ l) (first_left seen rest x))
       ∙ sym (ap (λ (l : List Counted). twice ++ left_of seen l) (drop_here own place x at))
       ∙ so_far
@@ -268,13 +268,13 @@ module _ (other : List Counted) where
       (drop_end own place past)) ∙ so_far
 
 -- of two paths that are told
-pub both_told : (c : Circuit) (one other : Option Path) (own more found : List Counted) →
+pub both_noted : (c : Circuit) (one other : Option Path) (own more found : List Counted) →
     Some own ≡ option_map (parts c) one →
     Some more ≡ option_map (parts c) other → found ≡ of_both own more →
     Some found ≡ counted_twice_known c one other
-both_told c None other own more found own_is more_is is = absurd (cc)
-both_told c (Some path) None own more found own_is more_is is = absurd (cc)
-both_told c (Some path) (Some clock) own more found own_is more_is is =
+both_noted c None other own more found own_is more_is is = absurd (cc)
+both_noted c (Some path) None own more found own_is more_is is = absurd (cc)
+both_noted c (Some path) (Some clock) own more found own_is more_is is =
     let first : own ≡ parts c path = cc in
     let second : more ≡ parts c clock = cc in
     ap Some (is ∙ ap (λ (l : List Counted). of_both l more) first

@@ -190,13 +190,13 @@ module _ (c : Circuit) (ws : Waves) (j : Instance) (corner : Corner) (s : Split)
       && is_some (arc_with c ws j corner
       (turned j.out_inverted (turned j.out_inverted other)) q s is_tight)) may)
 
-  pub cut_told : (net : ℕ) (other : Direction) (after : ℤ) (q : ℕ) (may : Bool)
-      (told : Option Before) →
+  pub cut_noted : (net : ℕ) (other : Direction) (after : ℤ) (q : ℕ) (may : Bool)
+      (noted : Option Before) →
       may ≡ is_cut_by c ws j corner s (cut_off net (turned j.out_inverted other) after q) →
-      told ≡ cond may (Some (cut_off net (turned j.out_inverted other) after q)) None →
-      told ≡ cut_at c ws j corner s (cut_off net (turned j.out_inverted other) after q)
-  cut_told net other after q may told is told_is =
-      told_is ∙ ap (λ (b : Bool). cond b
+      noted ≡ cond may (Some (cut_off net (turned j.out_inverted other) after q)) None →
+      noted ≡ cut_at c ws j corner s (cut_off net (turned j.out_inverted other) after q)
+  cut_noted net other after q may noted is noted_is =
+      noted_is ∙ ap (λ (b : Bool). cond b
       (Some (cut_off net (turned j.out_inverted other) after q)) None) is
 
   -- the ticks at which it is looked for

@@ -246,14 +246,14 @@ module _ (c : Circuit) (ws : Waves) (j : Instance) (corner : Corner) (d : Direct
       (open_cause c ws j d (back (period c.header) (slot_of (period c.header) tick)
       (inward corner delay n)) place)
 
-  pub own_tried : (n late : ℕ) (word : Word) (found : Option Pinned) (told : Option Arc) → late
+  pub own_tried : (n late : ℕ) (word : Word) (found : Option Pinned) (noted : Option Arc) → late
       ≡ inward corner delay n →
       word ≡ end_word two n → found
       ≡ pinned_by (open_cause c ws j d (slot_of (period c.header) (tick -ℤ pos late)) place) →
-      told ≡ option_map (arc_of late word) found →
-      told ≡ open_arc c ws j corner d (slot_of (period c.header) tick) two delay place n
-  own_tried n late word found told is named by told_is =
-      told_is ∙ ap (option_map (arc_of late word)) by ∙ tried n late word is named
+      noted ≡ option_map (arc_of late word) found →
+      noted ≡ open_arc c ws j corner d (slot_of (period c.header) tick) two delay place n
+  own_tried n late word found noted is named by noted_is =
+      noted_is ∙ ap (option_map (arc_of late word)) by ∙ tried n late word is named
 
 -- none of as many as a period has
 pub own_nowhere : (c : Circuit) (ws : Waves) (j : Instance) (corner : Corner) (d : Direction)

@@ -72,25 +72,25 @@ further_is Late a x = refl
 further_is Early a x = refl
 
 module _ (clock : ℕ) where
-  abbrev pub told : Arrival → ℤ × ℤ
-  told a = (a.edge, pos a.tick)
+  abbrev pub noted : Arrival → ℤ × ℤ
+  noted a = (a.edge, pos a.tick)
 
   abbrev pub own : Arrival → Bool
   own a = a.source == clock
 
   pub one_of : (a : Arrival) (xs : List Arrival) → of_clock clock (a ∷ xs)
-      ≡ cond (own a) (told a ∷ of_clock clock xs) (of_clock clock xs)
+      ≡ cond (own a) (noted a ∷ of_clock clock xs) (of_clock clock xs)
   one_of a xs = by (own a)
     where
-      by : (b : Bool) → map told (cond b (a ∷ filter own xs) (filter own xs))
-          ≡ cond b (told a ∷ map told (filter own xs)) (map told (filter own xs))
+      by : (b : Bool) → map noted (cond b (a ∷ filter own xs) (filter own xs))
+          ≡ cond b (noted a ∷ map noted (filter own xs)) (map noted (filter own xs))
       by true = refl
       by false = refl
 
   pub clock_append : (xs ys : List Arrival) → of_clock clock (xs ++ ys)
       ≡ of_clock clock xs ++ of_clock clock ys
-  clock_append xs ys = ap (map told) (filter-append own xs ys)
-      ∙ map-append told (filter own xs) (filter own ys)
+  clock_append xs ys = ap (map noted) (filter-append own xs ys)
+      ∙ map-append noted (filter own xs) (filter own ys)
 
   pub clock_later : (ticks : ℕ) (passage : Passage) (xs : List Arrival) → ticks_of passage ≡ pos ticks →
       of_clock clock (map (later_by ticks) xs) ≡ map (later passage) (of_clock clock xs)
@@ -100,13 +100,13 @@ module _ (clock : ℕ) where
       ∙ by (own a) (clock_later ticks passage xs is)
       ∙ ap (map (later passage)) (sym (one_of a xs))
     where
-      sum : ◌≡◌ {A = ℤ × ℤ} (a.edge, pos (a.tick + ticks)) (later passage (told a))
+      sum : ◌≡◌ {A = ℤ × ℤ} (a.edge, pos (a.tick + ticks)) (later passage (noted a))
       sum = ap (λ (t : ℤ). (a.edge, t))
           (let e = is in omega (arith, ints, e))
 
       by : (b : Bool) → of_clock clock (map (later_by ticks) xs) ≡ map (later passage) (of_clock clock xs) →
-          cond b (told (later_by ticks a) ∷ of_clock clock (map (later_by ticks) xs)) (of_clock clock (map (later_by ticks) xs))
-          ≡ map (later passage) (cond b (told a ∷ of_clock clock xs) (of_clock clock xs))
+          cond b (noted (later_by ticks a) ∷ of_clock clock (map (later_by ticks) xs)) (of_clock clock (map (later_by ticks) xs))
+          ≡ map (later passage) (cond b (noted a ∷ of_clock clock xs) (of_clock clock xs))
       by true rest = λ i. sum i ∷ rest i
       by false rest = rest
 
@@ -114,11 +114,11 @@ module _ (clock : ℕ) where
     -- an edge that has no place yet
     keep : (e bx ba : Bool) (x a : Arrival) (os : List (ℤ × ℤ)) → int_eq x.edge a.edge ≡ e →
         (bx ≡ true → ba ≡ true → e ≡ false) →
-        cond bx (told x ∷ cond ba (with_time corner os (told a)) os) (cond ba (with_time corner os (told a)) os)
-        ≡ cond ba (with_time corner (cond bx (told x ∷ os) os) (told a)) (cond bx (told x ∷ os) os)
+        cond bx (noted x ∷ cond ba (with_time corner os (noted a)) os) (cond ba (with_time corner os (noted a)) os)
+        ≡ cond ba (with_time corner (cond bx (noted x ∷ os) os) (noted a)) (cond bx (noted x ∷ os) os)
     keep e true true x a os is other =
-        sym (ap (λ (b : Bool). cond b (cond (is_further corner (pos a.tick) (pos x.tick)) (told a) (told x) ∷ os)
-        (told x ∷ with_time corner os (told a))) (is ∙ other refl refl))
+        sym (ap (λ (b : Bool). cond b (cond (is_further corner (pos a.tick) (pos x.tick)) (noted a) (noted x) ∷ os)
+        (noted x ∷ with_time corner os (noted a))) (is ∙ other refl refl))
     keep e true false x a os is other = refl
     keep e false true x a os is other = refl
     keep e false false x a os is other = refl
@@ -127,31 +127,31 @@ module _ (clock : ℕ) where
     put : (f ba : Bool) (x a : Arrival) (xs : List Arrival) → own a ≡ ba → own x ≡ ba → int_eq x.edge a.edge ≡ true →
         is_further_arrival corner a x ≡ f →
         of_clock clock (cond f a x ∷ xs)
-        ≡ cond ba (with_time corner (cond ba (told x ∷ of_clock clock xs) (of_clock clock xs)) (told a))
-        (cond ba (told x ∷ of_clock clock xs) (of_clock clock xs))
+        ≡ cond ba (with_time corner (cond ba (noted x ∷ of_clock clock xs) (of_clock clock xs)) (noted a))
+        (cond ba (noted x ∷ of_clock clock xs) (of_clock clock xs))
     put f false x a xs is_a is_x e is = one_of (cond f a x) xs
-        ∙ ap (λ (b : Bool). cond b (told (cond f a x) ∷ of_clock clock xs) (of_clock clock xs)) (by f)
+        ∙ ap (λ (b : Bool). cond b (noted (cond f a x) ∷ of_clock clock xs) (of_clock clock xs)) (by f)
       where
         by : (f : Bool) → own (cond f a x) ≡ false
         by true = is_a
         by false = is_x
     put f true x a xs is_a is_x e is = one_of (cond f a x) xs
-        ∙ ap (λ (b : Bool). cond b (told (cond f a x) ∷ of_clock clock xs) (of_clock clock xs)) (by f)
+        ∙ ap (λ (b : Bool). cond b (noted (cond f a x) ∷ of_clock clock xs) (of_clock clock xs)) (by f)
         ∙ ap (λ (t : ℤ × ℤ). t ∷ of_clock clock xs) (parts f)
-        ∙ ap (λ (b : Bool). cond b (told a) (told x) ∷ of_clock clock xs) (sym (further_is corner a x ∙ is))
-        ∙ sym (ap (λ (b : Bool). cond b (cond (is_further corner (pos a.tick) (pos x.tick)) (told a) (told x) ∷ of_clock clock xs)
-        (told x ∷ with_time corner (of_clock clock xs) (told a))) e)
+        ∙ ap (λ (b : Bool). cond b (noted a) (noted x) ∷ of_clock clock xs) (sym (further_is corner a x ∙ is))
+        ∙ sym (ap (λ (b : Bool). cond b (cond (is_further corner (pos a.tick) (pos x.tick)) (noted a) (noted x) ∷ of_clock clock xs)
+        (noted x ∷ with_time corner (of_clock clock xs) (noted a))) e)
       where
         by : (f : Bool) → own (cond f a x) ≡ true
         by true = is_a
         by false = is_x
 
-        parts : (f : Bool) → told (cond f a x) ≡ cond f (told a) (told x)
+        parts : (f : Bool) → noted (cond f a x) ≡ cond f (noted a) (noted x)
         parts true = refl
         parts false = refl
 
     abbrev after : List Arrival → Arrival → List (ℤ × ℤ)
-    after xs a = cond (own a) (with_time corner (of_clock clock xs) (told a)) (of_clock clock xs)
+    after xs a = cond (own a) (with_time corner (of_clock clock xs) (noted a)) (of_clock clock xs)
 
     pub clock_further : (xs : List Arrival) (a : Arrival) →
         of_clock clock (with_further corner xs a) ≡ after xs a
@@ -169,10 +169,10 @@ module _ (clock : ℕ) where
         rest : (e : Bool) → int_eq x.edge a.edge ≡ e → (own x ≡ true → own a ≡ true → e ≡ false) →
             of_clock clock (with_further corner xs a) ≡ after xs a →
             of_clock clock (x ∷ with_further corner xs a)
-            ≡ cond (own a) (with_time corner (cond (own x) (told x ∷ of_clock clock xs) (of_clock clock xs)) (told a))
-            (cond (own x) (told x ∷ of_clock clock xs) (of_clock clock xs))
+            ≡ cond (own a) (with_time corner (cond (own x) (noted x ∷ of_clock clock xs) (of_clock clock xs)) (noted a))
+            (cond (own x) (noted x ∷ of_clock clock xs) (of_clock clock xs))
         rest e is other more = one_of x (with_further corner xs a)
-            ∙ ap (λ (l : List (ℤ × ℤ)). cond (own x) (told x ∷ l) l) more
+            ∙ ap (λ (l : List (ℤ × ℤ)). cond (own x) (noted x ∷ l) l) more
             ∙ keep e (own x) (own a) x a (of_clock clock xs) is other
 
         by : (s e : Bool) → (x.source == a.source) ≡ s → int_eq x.edge a.edge ≡ e →
@@ -185,19 +185,19 @@ module _ (clock : ℕ) where
             ap (λ (b : Bool). of_clock clock (cond b (cond (is_further_arrival corner a x) a x ∷ xs) (x ∷ with_further corner xs a)))
             (λ i. s i && e i)
             ∙ put (is_further_arrival corner a x) (own a) x a xs refl (ap (λ (n : ℕ). n == clock) same) e refl
-            ∙ ap (λ (b : Bool). cond (own a) (with_time corner (cond b (told x ∷ of_clock clock xs) (of_clock clock xs)) (told a))
-            (cond b (told x ∷ of_clock clock xs) (of_clock clock xs))) (sym (ap (λ (n : ℕ). n == clock) same))
-            ∙ ap (λ (l : List (ℤ × ℤ)). cond (own a) (with_time corner l (told a)) l) (sym (one_of x xs))
+            ∙ ap (λ (b : Bool). cond (own a) (with_time corner (cond b (noted x ∷ of_clock clock xs) (of_clock clock xs)) (noted a))
+            (cond b (noted x ∷ of_clock clock xs) (of_clock clock xs))) (sym (ap (λ (n : ℕ). n == clock) same))
+            ∙ ap (λ (l : List (ℤ × ℤ)). cond (own a) (with_time corner l (noted a)) l) (sym (one_of x xs))
         by true false s e more =
             ap (λ (b : Bool). of_clock clock (cond b (cond (is_further_arrival corner a x) a x ∷ xs) (x ∷ with_further corner xs a)))
             (λ i. s i && e i)
             ∙ rest false e (λ of_x of_a. refl) more
-            ∙ ap (λ (l : List (ℤ × ℤ)). cond (own a) (with_time corner l (told a)) l) (sym (one_of x xs))
+            ∙ ap (λ (l : List (ℤ × ℤ)). cond (own a) (with_time corner l (noted a)) l) (sym (one_of x xs))
         by false e s is more =
             ap (λ (b : Bool). of_clock clock (cond b (cond (is_further_arrival corner a x) a x ∷ xs) (x ∷ with_further corner xs a)))
             (λ i. s i && is i)
             ∙ rest e is (λ of_x of_a. absurd (apart false s refl of_x of_a)) more
-            ∙ ap (λ (l : List (ℤ × ℤ)). cond (own a) (with_time corner l (told a)) l) (sym (one_of x xs))
+            ∙ ap (λ (l : List (ℤ × ℤ)). cond (own a) (with_time corner l (noted a)) l) (sym (one_of x xs))
 
 -- ---- all that come, of each edge the furthest
 
@@ -221,15 +221,15 @@ module _ (c : Circuit) (ws : Waves) (place : Place) (some : 0 < period c.header)
       by (comes_at a) (own place.clock a) refl refl (clock_furthest known more) (clock_furthest (with_further place.corner known a) more)
       ∙ ap (with_all c ws place (of_clock place.clock known)) (sym (one_of place.clock a more))
     where
-      one : (b : Bool) → comes_at a ≡ b → with_one c ws place (of_clock place.clock known) (told place.clock a)
-          ≡ cond b (with_time place.corner (of_clock place.clock known) (told place.clock a)) (of_clock place.clock known)
-      one b is = ap (λ (x : Bool). cond x (with_time place.corner (of_clock place.clock known) (told place.clock a)) (of_clock place.clock known)) (comes_is a ∙ is)
+      one : (b : Bool) → comes_at a ≡ b → with_one c ws place (of_clock place.clock known) (noted place.clock a)
+          ≡ cond b (with_time place.corner (of_clock place.clock known) (noted place.clock a)) (of_clock place.clock known)
+      one b is = ap (λ (x : Bool). cond x (with_time place.corner (of_clock place.clock known) (noted place.clock a)) (of_clock place.clock known)) (comes_is a ∙ is)
 
       -- it is of the clock, or not
       step : (of : Bool) → own place.clock a ≡ of → of_clock place.clock (with_further place.corner known a)
-          ≡ cond of (with_time place.corner (of_clock place.clock known) (told place.clock a)) (of_clock place.clock known)
+          ≡ cond of (with_time place.corner (of_clock place.clock known) (noted place.clock a)) (of_clock place.clock known)
       step of is = clock_further place.clock place.corner known a
-          ∙ ap (λ (x : Bool). cond x (with_time place.corner (of_clock place.clock known) (told place.clock a)) (of_clock place.clock known)) is
+          ∙ ap (λ (x : Bool). cond x (with_time place.corner (of_clock place.clock known) (noted place.clock a)) (of_clock place.clock known)) is
 
       by : (b of : Bool) → comes_at a ≡ b → own place.clock a ≡ of →
           of_clock place.clock (fold (with_further place.corner) known (filter comes_at more))
@@ -237,20 +237,20 @@ module _ (c : Circuit) (ws : Waves) (place : Place) (some : 0 < period c.header)
           of_clock place.clock (fold (with_further place.corner) (with_further place.corner known a) (filter comes_at more))
           ≡ with_all c ws place (of_clock place.clock (with_further place.corner known a)) (of_clock place.clock more) →
           of_clock place.clock (fold (with_further place.corner) known (cond (comes_at a) (a ∷ filter comes_at more) (filter comes_at more)))
-          ≡ with_all c ws place (of_clock place.clock known) (cond (own place.clock a) (told place.clock a ∷ of_clock place.clock more) (of_clock place.clock more))
+          ≡ with_all c ws place (of_clock place.clock known) (cond (own place.clock a) (noted place.clock a ∷ of_clock place.clock more) (of_clock place.clock more))
       by true true is of without with =
           ap (λ (x : Bool). of_clock place.clock (fold (with_further place.corner) known (cond x (a ∷ filter comes_at more) (filter comes_at more)))) is
           ∙ with ∙ ap (λ (l : List (ℤ × ℤ)). with_all c ws place l (of_clock place.clock more)) (step true of ∙ sym (one true is))
-          ∙ sym (ap (λ (x : Bool). with_all c ws place (of_clock place.clock known) (cond x (told place.clock a ∷ of_clock place.clock more) (of_clock place.clock more))) of)
+          ∙ sym (ap (λ (x : Bool). with_all c ws place (of_clock place.clock known) (cond x (noted place.clock a ∷ of_clock place.clock more) (of_clock place.clock more))) of)
       by true false is of without with =
           ap (λ (x : Bool). of_clock place.clock (fold (with_further place.corner) known (cond x (a ∷ filter comes_at more) (filter comes_at more)))) is
           ∙ with ∙ ap (λ (l : List (ℤ × ℤ)). with_all c ws place l (of_clock place.clock more)) (step false of)
-          ∙ sym (ap (λ (x : Bool). with_all c ws place (of_clock place.clock known) (cond x (told place.clock a ∷ of_clock place.clock more) (of_clock place.clock more))) of)
+          ∙ sym (ap (λ (x : Bool). with_all c ws place (of_clock place.clock known) (cond x (noted place.clock a ∷ of_clock place.clock more) (of_clock place.clock more))) of)
       by false true is of without with =
           ap (λ (x : Bool). of_clock place.clock (fold (with_further place.corner) known (cond x (a ∷ filter comes_at more) (filter comes_at more)))) is
           ∙ without ∙ ap (λ (l : List (ℤ × ℤ)). with_all c ws place l (of_clock place.clock more)) (sym (one false is))
-          ∙ sym (ap (λ (x : Bool). with_all c ws place (of_clock place.clock known) (cond x (told place.clock a ∷ of_clock place.clock more) (of_clock place.clock more))) of)
+          ∙ sym (ap (λ (x : Bool). with_all c ws place (of_clock place.clock known) (cond x (noted place.clock a ∷ of_clock place.clock more) (of_clock place.clock more))) of)
       by false false is of without with =
           ap (λ (x : Bool). of_clock place.clock (fold (with_further place.corner) known (cond x (a ∷ filter comes_at more) (filter comes_at more)))) is
           ∙ without
-          ∙ sym (ap (λ (x : Bool). with_all c ws place (of_clock place.clock known) (cond x (told place.clock a ∷ of_clock place.clock more) (of_clock place.clock more))) of)
+          ∙ sym (ap (λ (x : Bool). with_all c ws place (of_clock place.clock known) (cond x (noted place.clock a ∷ of_clock place.clock more) (of_clock place.clock more))) of)

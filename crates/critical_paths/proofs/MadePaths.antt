@@ -20,7 +20,7 @@ use Rattle.critical_paths.specs.Walk.{reading_of, stop_of}
 use Rattle.critical_paths.proofs.Edges.{edge_is}
 use Rattle.critical_paths.proofs.Few.{IsFolded}
 use Rattle.critical_paths.proofs.Linked.{origin_folded, stays_folded}
-use Rattle.critical_paths.proofs.Memo.{knows_more, told_is}
+use Rattle.critical_paths.proofs.Memo.{knows_more, noted_is}
 use Rattle.critical_paths.proofs.Settles.{small_stops}
 use Rattle.critical_paths.proofs.Staying.{stays}
 
@@ -47,13 +47,13 @@ short_kept old new grows at less short =
     subst (IsShortAt at.tick) (sym (node_kept old new grows at.node less)) short
 
 -- what tells a path is there
-pub told_within : (nodes : List Node) (i : ℕ) (path : Path) → path_known nodes i ≡ Some path →
+pub noted_within : (nodes : List Node) (i : ℕ) (path : Path) → path_known nodes i ≡ Some path →
     i < length nodes
-told_within nodes i path told = by (slice_get nodes i) refl told
+noted_within nodes i path noted = by (slice_get nodes i) refl noted
   where
     by : (o : Option Node) → slice_get nodes i ≡ o → known_by nodes o ≡ Some path → i < length nodes
-    by None is told = absurd (cc)
-    by (Some n) is told = slice_get_within nodes i n is
+    by None is noted = absurd (cc)
+    by (Some n) is noted = slice_get_within nodes i n is
 
 pub path_kept : (c : Circuit) (ws : Waves) (old new : List Node) (met : List (Stop × ℕ)) (s : Stop)
     (i : ℕ) → Knows c ws old met →
@@ -61,8 +61,8 @@ pub path_kept : (c : Circuit) (ws : Waves) (old new : List Node) (met : List (St
 path_kept c ws old new met s i knows has grows =
     let later = knows_more c ws old grows.more met knows in
     ap (λ (l : List Node). path_known l i) grows.is
-    ∙ told_is c ws (old ++ grows.more) (are_met met) s i (later.each s i has)
-    ∙ sym (told_is c ws old (are_met met) s i (knows.each s i has))
+    ∙ noted_is c ws (old ++ grows.more) (are_met met) s i (later.each s i has)
+    ∙ sym (noted_is c ws old (are_met met) s i (knows.each s i has))
 
 -- ---- a path is short
 

@@ -100,11 +100,11 @@ module _ (c : Circuit) (ws : Waves) where
 
   -- ---- what is known is the path
 
-  pub told_is : (nodes : List Node) (among : Stop → Bool) (s : Stop) (i : ℕ) →
+  pub noted_is : (nodes : List Node) (among : Stop → Bool) (s : Stop) (i : ℕ) →
       IsKnown c ws nodes among s i →
       path_known nodes i ≡ Some (path_of_stop c ws s)
   unfolding path_of_stop
-  told_is nodes among s i known =
+  noted_is nodes among s i known =
       let n = known.node in
       let few = known.tells.few in
       let count = known.tells.count in

@@ -57,13 +57,13 @@ module _ (c : Circuit) (ws : Waves) (corner : Corner) where
   -- what is behind the pin has the path, by folds and at the pin's own corner
   pub pin_path_found : (q : ℕ) (d : Direction) (inverted : Bool) (target : Target) (h : Hidden)
       (side : Corner) (reading : Reading)
-      (told : Option Path) → Some h ≡ behind c ws corner q (turned inverted d) target →
+      (noted : Option Path) → Some h ≡ behind c ws corner q (turned inverted d) target →
       side ≡ corner → reading ≡ Folded →
-      told ≡ Some (path_of_stop c ws (stop_of c side reading h.event)) →
-      ◌≡◌ {A = Option (Option PinPath)} (Some (pin_path_by h.wire told))
+      noted ≡ Some (path_of_stop c ws (stop_of c side reading h.event)) →
+      ◌≡◌ {A = Option (Option PinPath)} (Some (pin_path_by h.wire noted))
       (option_map Some (pin_path_on c ws corner q d inverted target))
-  pin_path_found q d inverted target h side reading told is side_is reading_is told_is =
-      ap (λ (o : Option Path). Some (pin_path_by h.wire o)) (told_is
+  pin_path_found q d inverted target h side reading noted is side_is reading_is noted_is =
+      ap (λ (o : Option Path). Some (pin_path_by h.wire o)) (noted_is
       ∙ ap (λ (k : Corner). Some (path_of_stop c ws (stop_of c k reading h.event))) side_is
       ∙ ap (λ (r : Reading). Some (path_of_stop c ws (stop_of c corner r h.event))) reading_is)
       ∙ sym (ap (option_map Some) (pin_path_is q d inverted target
@@ -78,22 +78,22 @@ module _ (c : Circuit) (ws : Waves) (corner : Corner) where
       ∙ sym (ap (option_map path_behind) none)))
 
   pub end_path_is : (d own : Direction) (inverted : Bool) (target : Target) (i min : ℕ)
-      (tick earlier : ℤ) (told : Option Path) →
+      (tick earlier : ℤ) (noted : Option Path) →
       0 < period c.header → target ≡ OnNet i → own ≡ turned inverted d →
       min ≡ (wire_at c.nets i).min → earlier ≡ tick -ℤ pos min →
-      told ≡ Some (end_path_of c ws corner (record {
+      noted ≡ Some (end_path_of c ws corner (record {
         net = i;
         direction = own;
         slot = slot_of (period c.header) earlier;
       })) →
-      ◌≡◌ {A = Option (Option PinPath)} (Some (pin_path_by min told))
+      ◌≡◌ {A = Option (Option PinPath)} (Some (pin_path_by min noted))
       (option_map Some (end_path_on c ws corner (slot_of (period c.header) tick) d inverted target))
-  end_path_is d own inverted target i min tick earlier told some target_is own_is min_is earlier_is
-      told_is =
+  end_path_is d own inverted target i min tick earlier noted some target_is own_is min_is earlier_is
+      noted_is =
       let slot_is = ap (slot_of (period c.header)) (earlier_is
       ∙ ap (λ (m : ℕ). tick -ℤ pos m) min_is)
       ∙ slot_back (period c.header) (wire_at c.nets i).min tick some in
-      ap (λ (o : Option Path). Some (pin_path_by min o)) told_is
+      ap (λ (o : Option Path). Some (pin_path_by min o)) noted_is
       ∙ ap (λ (m : ℕ). made m own (slot_of (period c.header) earlier)) min_is
       ∙ ap (λ (o : Direction). made (wire_at c.nets i).min o (slot_of (period c.header) earlier))
       own_is

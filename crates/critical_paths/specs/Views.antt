@@ -24,7 +24,7 @@ use Rattle.gate_eval.specs.Hold.{first_some, hazard, value_of_pin}
 use Rattle.critical_paths.specs.declared.direction.Corner.{Corner}
 use Rattle.critical_paths.specs.declared.direction.Corner.TheVariants.{Late as LateCorner, Early as EarlyCorner}
 use Rattle.critical_paths.specs.declared.direction.Direction.{Direction}
-use Rattle.critical_paths.specs.declared.event.Event.{Event as Told}
+use Rattle.critical_paths.specs.declared.event.Event.{Event as Noted}
 use Rattle.critical_paths.specs.declared.event.Reading.{Reading}
 use Rattle.critical_paths.specs.declared.event.Reading.TheVariants.{Folded, Unfolded}
 use Rattle.critical_paths.specs.declared.region.Test.{Test}
@@ -45,7 +45,7 @@ use Rattle.critical_paths.specs.Region.{Region}
 use Rattle.critical_paths.specs.Path.{Arc, Before, choices, cut_at, cut_off, delay_to, event_before, inward, is_event}
 
 -- the event of a tick, in a period of p
-abbrev pub event_of : ℕ → Told → Event
+abbrev pub event_of : ℕ → Noted → Event
 event_of p e = record { net = e.net; direction = e.direction; slot = slot_of p e.tick }
 
 abbrev pub cause_with : Pinned × Word → Cause
@@ -220,7 +220,7 @@ MayHold (Some marked) kind = may_be_marked kind ≡ true
 
 -- What is asked of its driver for an event: the step of its own output, at the same tick.
 pub record IsAskedOf (tick : ℤ) (corner : Corner) (direction : Direction) (j : Instance)
-    (e : Told) : Type 0 where
+    (e : Noted) : Type 0 where
   pub same_tick : e.tick ≡ tick
   pub same_corner : e.corner ≡ corner
   pub own : turned j.out_inverted e.direction ≡ direction

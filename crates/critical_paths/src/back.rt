@@ -323,14 +323,14 @@ impl<'a, W: CyclicWave<Item = Value>> View<'a, W> {
             let j = asked.entry.element.now in let corner = asked.entry.corner in
             let q = slot_of (period c.header) asked.entry.tick in
             let inner = inner_arc_of c ws j corner asked.entry.direction q in
-            let told = option_map arc_with_word in
+            let noted = option_map arc_with_word in
             (s : Split) → j.split ≡ Some s →
             IfOk result (λ found. option_map (before_of (period c.header)) found
             ≡ option_or (option_map (before_of (period c.header)) ended)
             (option_or (cut_of c ws j corner (event_of (period c.header) event)
             asked.entry.direction s)
             (option_and_then (before_arc c ws j corner q)
-            (option_or (option_or (told steps.0) (told steps.1))
+            (option_or (option_or (noted steps.0) (noted steps.1))
             (option_or (inner s Direction.Rise) (inner s Direction.Fall)))))) }
     {
         if ended.is_some() {

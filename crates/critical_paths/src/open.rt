@@ -339,8 +339,8 @@ impl<'a, W: CyclicWave<Item = Value>> View<'a, W> {
     {
         delay.known();
         let found = self.arc_at(asked, delay, 0)?;
-        let told = many_arc(asked.element, found);
-        let back = self.through_some(asked, told);
+        let noted = many_arc(asked.element, found);
+        let back = self.through_some(asked, noted);
         Ok(folded(back))
     }
 

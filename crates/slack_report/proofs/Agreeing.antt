@@ -24,9 +24,9 @@ use Rattle.slack_rows.specs.declared.parameter.Word.{Word as Limit}
 use Rattle.slack_rows.specs.declared.parameter.Word.TheVariants.{Setup, Hold, High, Low, Gate, Before as GateBefore, After as GateAfter, Assert, From as StableFrom, To as StableTo}
 use Rattle.slack_rows.specs.Laws.{AreWaves, SomeOf}
 use Rattle.critical_paths.specs.declared.direction.Direction.TheVariants.{Change}
-use Rattle.slack_rows.specs.Limit.{Case, beside, least_told, told_case, told_check, told_in, told_instance, told_mark, told_pin}
+use Rattle.slack_rows.specs.Limit.{Case, beside, least_finding, finding_case, finding_check, finding_in, finding_instance, finding_mark, finding_pin}
 use Rattle.slack_rows.specs.Rows.{all_limits, if_some, limits_at, limits_of, limits_of_check, limits_of_instance, limits_of_mark, limits_of_net, limit_with, some_broken, subjects}
-use Rattle.slack_rows.specs.Slack.{Free, Told, is_broken, least, told_alone, told_of}
+use Rattle.slack_rows.specs.Slack.{Free, Finding, is_broken, least, finding_alone, finding_of}
 use Rattle.slack_rows.proofs.Broken.{BrokenAt, least_breaks, least_broken}
 use Rattle.slack_rows.proofs.Checkers.{edges_break_with_faults}
 use Rattle.slack_rows.proofs.Gates.{marks_break_with_faults}
@@ -40,7 +40,7 @@ use Rattle.slack_report.proofs.Tests.{any_each, any_flat, any_map, any_or, any_s
 
 module _ (c : Circuit) (ws : Waves) (are : AreWaves c ws) where
   abbrev breaks : Subject → Limit → Bool
-  breaks subject limit = is_broken (told_in c ws subject limit).slack
+  breaks subject limit = is_broken (finding_in c ws subject limit).slack
 
   abbrev some_breaks : Subject → Bool
   some_breaks subject = list_any (breaks subject) (limits_of c subject)
@@ -90,10 +90,10 @@ module _ (c : Circuit) (ws : Waves) (are : AreWaves c ws) where
   unfolding instance_faults
   widths_are k o at = ap (widths_of c ws k) at
 
-  told_is : (k : ℕ) (o : Option Instance) (limit : Limit) → slice_get c.instances k ≡ o →
-      told_in c ws (OfInstance k) limit ≡ told_instance c ws limit o
-  unfolding told_in
-  told_is k o limit at = ap (told_instance c ws limit) at
+  finding_is : (k : ℕ) (o : Option Instance) (limit : Limit) → slice_get c.instances k ≡ o →
+      finding_in c ws (OfInstance k) limit ≡ finding_instance c ws limit o
+  unfolding finding_in
+  finding_is k o limit at = ap (finding_instance c ws limit) at
 
   module _ (k : ℕ) (j : Instance) (at : slice_get c.instances k ≡ Some j) where
     abbrev breaks_at : Limit → Bool
@@ -173,13 +173,13 @@ module _ (c : Circuit) (ws : Waves) (are : AreWaves c ws) where
         (fault_by_check (Some Widths) is free))
 
     -- with a marked pin, or without
-    told_marked : may_be_marked j.kind ≡ true → (limit : Limit) (marked : Option ℕ) →
-        marked_pin j ≡ marked → breaks_at limit ≡ is_broken (told_mark c ws j limit marked).slack
-    told_marked marks limit marked is =
-        ap (λ (told : Told). is_broken told.slack)
-        (told_is k (Some j) limit at
-        ∙ ap (λ (b : Bool). cond b (told_mark c ws j limit (marked_pin j)) (told_check c ws j limit (check_of j.kind))) marks
-        ∙ ap (told_mark c ws j limit) is)
+    finding_marked : may_be_marked j.kind ≡ true → (limit : Limit) (marked : Option ℕ) →
+        marked_pin j ≡ marked → breaks_at limit ≡ is_broken (finding_mark c ws j limit marked).slack
+    finding_marked marks limit marked is =
+        ap (λ (finding : Finding). is_broken finding.slack)
+        (finding_is k (Some j) limit at
+        ∙ ap (λ (b : Bool). cond b (finding_mark c ws j limit (marked_pin j)) (finding_check c ws j limit (check_of j.kind))) marks
+        ∙ ap (finding_mark c ws j limit) is)
 
     law_of_marks : may_be_marked j.kind ≡ true → (is_some (instance_fault c ws k) ≡ true)
         ↔ ((breaks_at Gate ≡ true) ⊎ ((breaks_at GateBefore ≡ true) ⊎ (breaks_at GateAfter ≡ true)))
@@ -187,10 +187,10 @@ module _ (c : Circuit) (ws : Waves) (are : AreWaves c ws) where
 
     alone : may_be_marked j.kind ≡ true → (marked : ℕ) → marked_pin j ≡ Some marked →
         (pins : List ℕ) → beside j marked ≡ pins → (limit : Limit) →
-        breaks_at limit ≡ is_broken (least (map (λ i. told_of i Change (told_pin c ws j limit marked i)) pins)).slack
+        breaks_at limit ≡ is_broken (least (map (λ i. finding_of i Change (finding_pin c ws j limit marked i)) pins)).slack
     alone marks marked is pins are_pins limit =
-        told_marked marks limit (Some marked) is
-        ∙ ap (λ (is : List ℕ). is_broken (least (map (λ i. told_of i Change (told_pin c ws j limit marked i)) is)).slack) are_pins
+        finding_marked marks limit (Some marked) is
+        ∙ ap (λ (is : List ℕ). is_broken (least (map (λ i. finding_of i Change (finding_pin c ws j limit marked i)) is)).slack) are_pins
 
     of_pins : may_be_marked j.kind ≡ true → (marked : ℕ) → marked_pin j ≡ Some marked →
         (pins : List ℕ) → beside j marked ≡ pins →
@@ -208,8 +208,8 @@ module _ (c : Circuit) (ws : Waves) (are : AreWaves c ws) where
         list_any breaks_at (limits_of_mark j marked) ≡ is_some (instance_fault c ws k)
     of_mark marks None is =
         none_is (is_some (instance_fault c ws k)) (breaks_at Gate) (breaks_at GateBefore)
-        (breaks_at GateAfter) (law_of_marks marks) (told_marked marks Gate None is)
-        (told_marked marks GateBefore None is) (told_marked marks GateAfter None is)
+        (breaks_at GateAfter) (law_of_marks marks) (finding_marked marks Gate None is)
+        (finding_marked marks GateBefore None is) (finding_marked marks GateAfter None is)
     of_mark marks (Some marked) is = of_pins marks marked is (beside j marked) refl
 
     of_kind : (marks : Bool) → may_be_marked j.kind ≡ marks →
@@ -294,10 +294,10 @@ module _ (c : Circuit) (ws : Waves) (are : AreWaves c ws) where
 
 module _ (c : Circuit) where
   abbrev breaks_in : Parameter → Case → Bool
-  breaks_in q case = is_broken (told_case c q.subject q.word case).slack
+  breaks_in q case = is_broken (finding_case c q.subject q.word case).slack
 
   some_true : (q : Parameter) (cases : List Case) →
-      SomeOf (BrokenAt (told_case c q.subject q.word)) cases → list_any (breaks_in q) cases ≡ true
+      SomeOf (BrokenAt (finding_case c q.subject q.word)) cases → list_any (breaks_in q) cases ≡ true
   some_true q [] none = absurd none
   some_true q (case ∷ cases) (inl broken) =
       ap (λ (b : Bool). b || list_any (breaks_in q) cases) broken
@@ -308,26 +308,26 @@ module _ (c : Circuit) where
       by false is = is
 
   true_some : (q : Parameter) (cases : List Case) → list_any (breaks_in q) cases ≡ true →
-      SomeOf (BrokenAt (told_case c q.subject q.word)) cases
+      SomeOf (BrokenAt (finding_case c q.subject q.word)) cases
   true_some q [] is = absurd (cc)
   true_some q (case ∷ cases) is = by (breaks_in q case) refl (true_some q cases) is
     where
       by : (b : Bool) → breaks_in q case ≡ b →
-          (list_any (breaks_in q) cases ≡ true → SomeOf (BrokenAt (told_case c q.subject q.word)) cases) →
+          (list_any (breaks_in q) cases ≡ true → SomeOf (BrokenAt (finding_case c q.subject q.word)) cases) →
           (breaks_in q case || list_any (breaks_in q) cases) ≡ true →
-          SomeOf (BrokenAt (told_case c q.subject q.word)) (case ∷ cases)
+          SomeOf (BrokenAt (finding_case c q.subject q.word)) (case ∷ cases)
       by true here more is = inl here
       by false here more is = inr (more (sym (ap (λ (b : Bool). b || list_any (breaks_in q) cases) here) ∙ is))
 
   -- the least slack of a limit is broken exactly where it is in some case
   least_is : (cases : List Case) (q : Parameter) →
-      is_broken (least_told c cases q.subject q.word).slack ≡ list_any (breaks_in q) cases
+      is_broken (least_finding c cases q.subject q.word).slack ≡ list_any (breaks_in q) cases
   least_is cases q =
-      same_test (is_broken (least_told c cases q.subject q.word).slack) (list_any (breaks_in q) cases)
-      (λ broken. by (least_broken (told_case c q.subject q.word) (told_alone Free) cases broken))
-      (λ found. least_breaks (told_case c q.subject q.word) (told_alone Free) cases (inr (true_some q cases found)))
+      same_test (is_broken (least_finding c cases q.subject q.word).slack) (list_any (breaks_in q) cases)
+      (λ broken. by (least_broken (finding_case c q.subject q.word) (finding_alone Free) cases broken))
+      (λ found. least_breaks (finding_case c q.subject q.word) (finding_alone Free) cases (inr (true_some q cases found)))
     where
-      by : (false ≡ true) ⊎ SomeOf (BrokenAt (told_case c q.subject q.word)) cases →
+      by : (false ≡ true) ⊎ SomeOf (BrokenAt (finding_case c q.subject q.word)) cases →
           list_any (breaks_in q) cases ≡ true
       by (inl never) = absurd (cc)
       by (inr some) = some_true q cases some
@@ -348,7 +348,7 @@ module _ (c : Circuit) where
       not (some_broken c cases) ≡ (fault_total c cases == 0)
   broken_with_faults cases are =
       ap not
-      (any_each (λ (q : Parameter). is_broken (least_told c cases q.subject q.word).slack)
+      (any_each (λ (q : Parameter). is_broken (least_finding c cases q.subject q.word).slack)
       (λ (q : Parameter). list_any (breaks_in q) cases) (least_is cases) (all_limits c)
       ∙ any_swap breaks_in (all_limits c) cases ∙ each_case cases are)
       ∙ sym (none_in_sum (λ (case : Case). faults_of c case.waves) cases)

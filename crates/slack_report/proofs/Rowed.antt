@@ -40,11 +40,11 @@ module _ (c : Circuit) (cases : List Case) where
       ∙ ap (λ (rows : List Row). length (filter is_own rows)) (sym (rows_of c cases (subjects c)))
 
   -- a limit that something can break and that is not told before
-  pub row_is : (rows : Rows) (place : ℕ) (q : Parameter) (found : Option Least) (told : Bool) →
+  pub row_is : (rows : Rows) (place : ℕ) (q : Parameter) (found : Option Least) (reported : Bool) →
       AreRows c cases rows → slice_get rows.parameters place ≡ Some q →
-      slice_get rows.least place ≡ Some found → told ≡ is_reported c cases (row_at q) →
-      (not (is_none found) && not told) ≡ has_row c cases q
-  row_is rows place q found told are at here same =
+      slice_get rows.least place ≡ Some found → reported ≡ is_reported c cases (row_at q) →
+      (not (is_none found) && not reported) ≡ has_row c cases q
+  row_is rows place q found reported are at here same =
       (λ i. not (are.known.free place q found at here i) && not (same i))
 
   -- one limit more

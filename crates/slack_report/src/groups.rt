@@ -38,7 +38,7 @@ fn add_entries(sheet: Sheet, entries: &mut Vec<Entry>) -> Result<(), NoMemory> {
             if !sheet.is_reported(place) {
                 entries.push(Entry {
                     row: 0,
-                    rank: limit.least.told.slack.rank(),
+                    rank: limit.least.finding.slack.rank(),
                     place,
                 })?;
             }

@@ -102,18 +102,18 @@ fn put_outline(page: &mut Page, outline: Option<Outline>) {
 }
 
 /// Puts the slack of a limit, and the window and the pin that it is of.
-fn put_told(page: &mut Page, of: Limit) {
-    let told = of.least.told;
-    put_slack(page, told.slack);
-    if let Slack::NoNumber(reason) = told.slack {
+fn put_finding(page: &mut Page, of: Limit) {
+    let finding = of.least.finding;
+    put_slack(page, finding.slack);
+    if let Slack::NoNumber(reason) = finding.slack {
         page.put(b" ");
         put_reason(page, reason);
     }
-    let is_repeated = matches!(told.by, By::Repeated);
+    let is_repeated = matches!(finding.by, By::Repeated);
     let numbers = [
-        told.window.first,
-        told.window.last,
-        i64::from(told.pin),
+        finding.window.first,
+        finding.window.last,
+        i64::from(finding.pin),
         i64::from(is_repeated),
     ];
     page.fill(b";#,#,#,#;", &numbers);
@@ -129,7 +129,7 @@ pub fn row_text(
     let mut page = Page::new(sheet.alloc);
     put_limit(&mut page, of.parameter);
     page.put(b";");
-    put_told(&mut page, of);
+    put_finding(&mut page, of);
     put_statement(&mut page, sheet.statement(of.parameter.subject));
     put_outline(&mut page, data);
     put_outline(&mut page, clock);

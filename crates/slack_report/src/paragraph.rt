@@ -23,7 +23,7 @@ fn put_head(page: &mut Page, sheet: Sheet, number: usize, row: &Row) {
     page.put(b" of ");
     put_names(page, sheet, row.limits.as_slice());
     page.fill(b" (line #), slack ", &[sheet.line(parameter.subject)]);
-    put_slack(page, least.told.slack);
+    put_slack(page, least.finding.slack);
     if row.limits.len() > 1 {
         page.put(b", path of ");
         put_bit_name(page, sheet, parameter.subject);
@@ -52,16 +52,16 @@ fn opposite(ticks: i64) -> i64 {
 
 /// Puts the sum of a limit that is no width: its edge, the data's tick, and the slack.
 fn put_sum(page: &mut Page, of: Limit, moved: i64) {
-    let told = of.least.told;
+    let finding = of.least.finding;
     let limit = i64::from(of.parameter.limit);
     let corner = of.parameter.word.corner();
     let (edge, sum) = match corner {
         Corner::Late => {
-            let edge = told.window.first.saturating_add(moved);
+            let edge = finding.window.first.saturating_add(moved);
             (edge, edge.saturating_sub(limit))
         }
         Corner::Early => {
-            let edge = told.window.last.saturating_add(moved);
+            let edge = finding.window.last.saturating_add(moved);
             (edge, edge.saturating_add(limit).saturating_add(1))
         }
     };
@@ -74,8 +74,8 @@ fn put_sum(page: &mut Page, of: Limit, moved: i64) {
         _ => b"   stable to #",
     };
     page.fill(text, &[edge, limit, sum]);
-    page.fill(b", changes at #: ", &[told.tick.saturating_add(moved)]);
-    put_amount(page, told.slack.ticks(), corner);
+    page.fill(b", changes at #: ", &[finding.tick.saturating_add(moved)]);
+    put_amount(page, finding.slack.ticks(), corner);
 }
 
 /// Puts how many ticks before the edge the data is launched.
@@ -146,8 +146,8 @@ fn moved_by(sheet: Sheet, data: At, clock: Option<At>) -> i64 {
 /// Puts that one region is on both sides, and by how much it is.
 fn put_either(page: &mut Page, before: Least, after: Least) {
     let amounts = [
-        opposite(before.told.slack.ticks()),
-        opposite(after.told.slack.ticks()),
+        opposite(before.finding.slack.ticks()),
+        opposite(after.finding.slack.ticks()),
     ];
     let text =
         b"   the change lies on both sides of the edge: earlier by # or later by # would do\n";
@@ -157,7 +157,7 @@ fn put_either(page: &mut Page, before: Least, after: Least) {
 /// Puts what stands beside the sum of a limit.
 fn put_beside(page: &mut Page, sheet: Sheet, of: Limit, data: At) {
     let least = of.least;
-    let slack = least.told.slack;
+    let slack = least.finding.slack;
     if let Some(clock) = least.clock {
         if let Some(ago) = sheet.ago(data, clock) {
             put_launch(page, of.parameter.word, ago);
@@ -210,7 +210,7 @@ fn put_pulse(page: &mut Page, sheet: Sheet, drawing: &Drawing, of: Limit, begin:
     put_path(page, lines, begin);
     page.put(b"   end, earliest:\n");
     put_path(page, lines, end);
-    let window = of.least.told.window;
+    let window = of.least.finding.window;
     let limit = i64::from(of.parameter.limit);
     let first = window.first.saturating_add(moved);
     let last = window.last.saturating_add(moved);
@@ -226,7 +226,7 @@ fn put_pulse(page: &mut Page, sheet: Sheet, drawing: &Drawing, of: Limit, begin:
             width.saturating_sub(limit),
         ],
     );
-    page.put(if matches!(of.least.told.by, By::Swallowed) {
+    page.put(if matches!(of.least.finding.by, By::Swallowed) {
         b": it may be swallowed\n".as_slice()
     } else {
         b"\n"
@@ -235,7 +235,7 @@ fn put_pulse(page: &mut Page, sheet: Sheet, drawing: &Drawing, of: Limit, begin:
 
 /// Puts the sum of a pulse that may change more than once.
 fn put_repeated(page: &mut Page, of: Limit) {
-    let window = of.least.told.window;
+    let window = of.least.finding.window;
     let limit = i64::from(of.parameter.limit);
     let width = window.last.saturating_sub(window.first);
     page.fill(
@@ -258,19 +258,19 @@ fn put_quiet(page: &mut Page, corner: Corner, ticks: i64) {
 pub fn put_paragraph(page: &mut Page, sheet: Sheet, drawing: &Drawing, number: usize, row: &Row) {
     let of = row.first;
     let Least {
-        told,
+        finding,
         data,
         clock,
         ..
     } = of.least;
     put_head(page, sheet, number, row);
-    if let Slack::NoNumber(reason) = told.slack {
+    if let Slack::NoNumber(reason) = finding.slack {
         page.put(b"     ");
         put_reason(page, reason);
         page.put(b"\n");
     }
-    match (told.by, data, clock) {
-        (By::Quiet, _, _) => put_quiet(page, of.parameter.word.corner(), told.slack.ticks()),
+    match (finding.by, data, clock) {
+        (By::Quiet, _, _) => put_quiet(page, of.parameter.word.corner(), finding.slack.ticks()),
         (By::Repeated, _, _) => put_repeated(page, of),
         (By::Pulse | By::Swallowed, Some(begin), Some(end)) => {
             put_pulse(page, sheet, drawing, of, begin, end);

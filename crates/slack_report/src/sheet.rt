@@ -243,7 +243,7 @@ impl<'a> Sheet<'a> {
     pub fn limit(self, place: usize) -> Option<Limit> {
         let parameter = *self.rows.parameters.get(place)?;
         let least = self.least(place)?;
-        let after = match least.told.slack {
+        let after = match least.finding.slack {
             Slack::NoNumber(_) => None,
             Slack::Ticks(_) | Slack::Way(_) => self.after(place),
         };

@@ -20,7 +20,7 @@ const HEADINGS: [&[u8]; COLUMNS] = [b"slack", b"limit", b"of", b"line", b"case"]
 pub fn broken_rows(rows: &[Row]) -> usize {
     let mut broken: usize = 0;
     for row in rows {
-        if row.first.least.told.slack.is_broken() {
+        if row.first.least.finding.slack.is_broken() {
             broken = broken.saturating_add(1);
         }
     }
@@ -33,7 +33,7 @@ fn put_cell(page: &mut Page, sheet: Sheet, row: Option<&Row>, column: usize) {
         return page.put(HEADINGS[column.min(COLUMNS - 1)]);
     };
     match column {
-        0 => put_slack(page, row.first.least.told.slack),
+        0 => put_slack(page, row.first.least.finding.slack),
         1 => put_limit(page, row.first.parameter),
         2 => put_names(page, sheet, row.limits.as_slice()),
         3 => page.number(sheet.line(row.first.parameter.subject)),
@@ -111,7 +111,7 @@ pub fn put_table(page: &mut Page, sheet: Sheet, rows: &[Row], worst: Option<u32>
     if let Some(next) = rows.get(shown) {
         let more = rows.len().saturating_sub(shown);
         page.fill(b"and # rows more, from slack ", &[number_of(more)]);
-        put_slack(page, next.first.least.told.slack);
+        put_slack(page, next.first.least.finding.slack);
         page.put(b" on\n");
     }
 }

@@ -77,7 +77,7 @@ fn put_text(page: &mut Page, sheet: Sheet, subject: Subject) {
 }
 
 /// The bit of a net or an instance if that is printed: if there is another, or it is not 0.
-fn told_bit(sheet: Sheet, subject: Subject) -> Option<u16> {
+fn printed_bit(sheet: Sheet, subject: Subject) -> Option<u16> {
     let bit = sheet.bit(subject);
     if bit == 0 && sheet.names.is_alone(subject) {
         None
@@ -94,7 +94,7 @@ pub fn put_bit_name(page: &mut Page, sheet: Sheet, subject: Subject) {
 
 /// Puts the name of a net or an instance, whose bit is left out if it is the only one.
 pub fn put_name(page: &mut Page, sheet: Sheet, subject: Subject) {
-    match told_bit(sheet, subject) {
+    match printed_bit(sheet, subject) {
         Some(_) => put_bit_name(page, sheet, subject),
         None => put_text(page, sheet, subject),
     }
@@ -106,7 +106,7 @@ pub fn name_width(sheet: Sheet, net: u32) -> usize {
         Some(found) => found.name.len(),
         None => 0,
     };
-    match told_bit(sheet, Subject::Net(net)) {
+    match printed_bit(sheet, Subject::Net(net)) {
         Some(bit) => text
             .saturating_add(2)
             .saturating_add(columns(i64::from(bit))),

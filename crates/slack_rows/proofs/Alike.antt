@@ -8,14 +8,14 @@ use Rattle.critical_paths.specs.declared.direction.Corner.{Corner}
 use Rattle.critical_paths.specs.Tick.{is_further}
 use Rattle.slack_rows.specs.declared.slack.Slack.TheVariants.{Ticks as NumberOfTicks}
 use Rattle.slack_rows.specs.declared.slack.Slacks.{Slacks}
-use Rattle.slack_rows.specs.declared.slack.Told.{Told as Found}
-use Rattle.slack_rows.specs.Slack.{Slack, Free, Ticks, Way, NoNumber, Told, is_broken, is_free, is_less, lesser}
+use Rattle.slack_rows.specs.declared.slack.Finding.{Finding as Found}
+use Rattle.slack_rows.specs.Slack.{Slack, Free, Ticks, Way, NoNumber, Finding, is_broken, is_free, is_less, lesser}
 use Rattle.slack_rows.specs.Arrived.{further_of}
 use Rattle.slack_rows.specs.Held.{AreAlike, BreakOne}
-use Rattle.slack_rows.specs.Views.{Tells, is_starred, lesser_found, slack_by, slack_told}
+use Rattle.slack_rows.specs.Views.{Tells, is_starred, lesser_found, slack_by, slack_finding}
 use Rattle.slack_rows.proofs.Broken.{less_breaks, more_breaks}
 use Rattle.slack_rows.proofs.Ordered.{before_free, free_is_last}
-use Rattle.slack_rows.proofs.Tellings.{told_slack}
+use Rattle.slack_rows.proofs.Findings.{finding_slack}
 
 -- ---- the lesser of two
 
@@ -60,7 +60,7 @@ broken_less a b = by (is_less b a) refl
     by true is = or_second (is_broken a) (is_broken b) (less_breaks b a is)
     by false is = or_first (is_broken a) (is_broken b) (more_breaks b a is)
 
-lesser_slack : (a b : Told) → (lesser a b).slack ≡ cond (is_less b.slack a.slack) b.slack a.slack
+lesser_slack : (a b : Finding) → (lesser a b).slack ≡ cond (is_less b.slack a.slack) b.slack a.slack
 lesser_slack a b = by (is_less b.slack a.slack)
   where
     by : (x : Bool) → (cond x b a).slack ≡ cond x b.slack a.slack
@@ -68,25 +68,25 @@ lesser_slack a b = by (is_less b.slack a.slack)
     by false = refl
 
 found_slack : (a b : Option Found) →
-    slack_told (lesser_found a b) ≡ cond (is_less (slack_told b) (slack_told a)) (slack_told b) (slack_told a)
-found_slack a b = by (is_less (slack_told b) (slack_told a))
+    slack_finding (lesser_found a b) ≡ cond (is_less (slack_finding b) (slack_finding a)) (slack_finding b) (slack_finding a)
+found_slack a b = by (is_less (slack_finding b) (slack_finding a))
   where
-    by : (x : Bool) → slack_told (cond x b a) ≡ cond x (slack_told b) (slack_told a)
+    by : (x : Bool) → slack_finding (cond x b a) ≡ cond x (slack_finding b) (slack_finding a)
     by true = refl
     by false = refl
 
-pub free_lesser : (a b : Told) → is_free (lesser a b).slack ≡ (is_free a.slack && is_free b.slack)
+pub free_lesser : (a b : Finding) → is_free (lesser a b).slack ≡ (is_free a.slack && is_free b.slack)
 free_lesser a b = ap is_free (lesser_slack a b) ∙ free_less a.slack b.slack
 
-pub broken_lesser : (a b : Told) → is_broken (lesser a b).slack ≡ (is_broken a.slack || is_broken b.slack)
+pub broken_lesser : (a b : Finding) → is_broken (lesser a b).slack ≡ (is_broken a.slack || is_broken b.slack)
 broken_lesser a b = ap is_broken (lesser_slack a b) ∙ broken_less a.slack b.slack
 
-free_found : (a b : Option Found) → is_free (slack_told (lesser_found a b)) ≡ (is_free (slack_told a) && is_free (slack_told b))
-free_found a b = ap is_free (found_slack a b) ∙ free_less (slack_told a) (slack_told b)
+free_found : (a b : Option Found) → is_free (slack_finding (lesser_found a b)) ≡ (is_free (slack_finding a) && is_free (slack_finding b))
+free_found a b = ap is_free (found_slack a b) ∙ free_less (slack_finding a) (slack_finding b)
 
 broken_found : (a b : Option Found) →
-    is_broken (slack_told (lesser_found a b)) ≡ (is_broken (slack_told a) || is_broken (slack_told b))
-broken_found a b = ap is_broken (found_slack a b) ∙ broken_less (slack_told a) (slack_told b)
+    is_broken (slack_finding (lesser_found a b)) ≡ (is_broken (slack_finding a) || is_broken (slack_finding b))
+broken_found a b = ap is_broken (found_slack a b) ∙ broken_less (slack_finding a) (slack_finding b)
 
 -- ---- of two sides
 
@@ -96,29 +96,29 @@ exchanged false true true d = refl
 exchanged false true false d = refl
 exchanged false false c d = refl
 
-pub alike_lesser : (x y next : Slacks) (a b e f : Told) → AreAlike x a.slack b.slack → AreAlike y e.slack f.slack →
+pub alike_lesser : (x y next : Slacks) (a b e f : Finding) → AreAlike x a.slack b.slack → AreAlike y e.slack f.slack →
     next.before ≡ lesser_found x.before y.before → next.after ≡ lesser_found x.after y.after →
     AreAlike next (lesser a e).slack (lesser b f).slack
 alike_lesser x y next a b e f first second before after =
     record {
-      before = ap (λ (o : Option Found). is_free (slack_told o)) before ∙ free_found x.before y.before
+      before = ap (λ (o : Option Found). is_free (slack_finding o)) before ∙ free_found x.before y.before
           ∙ (λ i. first.before i && second.before i) ∙ sym (free_lesser a e);
-      after = ap (λ (o : Option Found). is_free (slack_told o)) after ∙ free_found x.after y.after
+      after = ap (λ (o : Option Found). is_free (slack_finding o)) after ∙ free_found x.after y.after
           ∙ (λ i. first.after i && second.after i) ∙ sym (free_lesser b f);
-      broken = (λ i. is_broken (slack_told (before i)) || is_broken (slack_told (after i)))
+      broken = (λ i. is_broken (slack_finding (before i)) || is_broken (slack_finding (after i)))
           ∙ (λ i. broken_found x.before y.before i || broken_found x.after y.after i)
-          ∙ exchanged (is_broken (slack_told x.before)) (is_broken (slack_told y.before)) (is_broken (slack_told x.after)) (is_broken (slack_told y.after))
+          ∙ exchanged (is_broken (slack_finding x.before)) (is_broken (slack_finding y.before)) (is_broken (slack_finding x.after)) (is_broken (slack_finding y.after))
           ∙ (λ i. first.broken i || second.broken i)
           ∙ exchanged (is_broken a.slack) (is_broken b.slack) (is_broken e.slack) (is_broken f.slack)
           ∙ sym (λ i. broken_lesser a e i || broken_lesser b f i);
     }
 
 -- what is told exactly
-pub alike_told : (p : ℕ) (found : Slacks) (before after : Told) → Tells p found.before before → Tells p found.after after →
+pub alike_finding : (p : ℕ) (found : Slacks) (before after : Finding) → Tells p found.before before → Tells p found.after after →
     AreAlike found before.slack after.slack
-alike_told p found before after first second =
-    let last = told_slack p found.before before first in
-    let next = told_slack p found.after after second in
+alike_finding p found before after first second =
+    let last = finding_slack p found.before before first in
+    let next = finding_slack p found.after after second in
     record {
       before = ap is_free last;
       after = ap is_free next;
@@ -130,9 +130,9 @@ pub alike_none : (found : Slacks) (before after : Slack) → found.before ≡ No
     AreAlike found before after
 alike_none found before after none none_after free free_after =
     record {
-      before = ap (λ (o : Option Found). is_free (slack_told o)) none ∙ sym (ap is_free free);
-      after = ap (λ (o : Option Found). is_free (slack_told o)) none_after ∙ sym (ap is_free free_after);
-      broken = (λ i. is_broken (slack_told (none i)) || is_broken (slack_told (none_after i)))
+      before = ap (λ (o : Option Found). is_free (slack_finding o)) none ∙ sym (ap is_free free);
+      after = ap (λ (o : Option Found). is_free (slack_finding o)) none_after ∙ sym (ap is_free free_after);
+      broken = (λ i. is_broken (slack_finding (none i)) || is_broken (slack_finding (none_after i)))
           ∙ sym (λ i. is_broken (free i) || is_broken (free_after i));
     }
 
@@ -141,14 +141,14 @@ pub alike_same : (found next : Slacks) (before after : Slack) → AreAlike found
     next.after ≡ found.after → AreAlike next before after
 alike_same found next before after alike same same_after =
     record {
-      before = ap (λ (o : Option Found). is_free (slack_told o)) same ∙ alike.before;
-      after = ap (λ (o : Option Found). is_free (slack_told o)) same_after ∙ alike.after;
-      broken = (λ i. is_broken (slack_told (same i)) || is_broken (slack_told (same_after i))) ∙ alike.broken;
+      before = ap (λ (o : Option Found). is_free (slack_finding o)) same ∙ alike.before;
+      after = ap (λ (o : Option Found). is_free (slack_finding o)) same_after ∙ alike.after;
+      broken = (λ i. is_broken (slack_finding (same i)) || is_broken (slack_finding (same_after i))) ∙ alike.broken;
     }
 
 -- ---- where both have a number or none, and one is broken
 
-pub alike_broken : (found : Slacks) (before after : Slack) → BreakOne (slack_told found.before) (slack_told found.after) →
+pub alike_broken : (found : Slacks) (before after : Slack) → BreakOne (slack_finding found.before) (slack_finding found.after) →
     BreakOne before after → AreAlike found before after
 alike_broken found before after one other =
     record {
@@ -179,12 +179,12 @@ starred_break before after first second =
 
 -- ---- numbers of ways
 
-pub starred_lesser : (best found : Option Found) → IfSome best (λ told. is_starred (slack_by told.slack) ≡ true) →
-    IfSome found (λ told. is_starred (slack_by told.slack) ≡ true) →
-    IfSome (lesser_found best found) (λ told. is_starred (slack_by told.slack) ≡ true)
-starred_lesser best found one other = by (is_less (slack_told found) (slack_told best))
+pub starred_lesser : (best found : Option Found) → IfSome best (λ finding. is_starred (slack_by finding.slack) ≡ true) →
+    IfSome found (λ finding. is_starred (slack_by finding.slack) ≡ true) →
+    IfSome (lesser_found best found) (λ finding. is_starred (slack_by finding.slack) ≡ true)
+starred_lesser best found one other = by (is_less (slack_finding found) (slack_finding best))
   where
-    by : (b : Bool) → IfSome (cond b found best) (λ told. is_starred (slack_by told.slack) ≡ true)
+    by : (b : Bool) → IfSome (cond b found best) (λ finding. is_starred (slack_by finding.slack) ≡ true)
     by true = other
     by false = one
 

@@ -18,7 +18,7 @@ use Rattle.flat_circuit.specs.declared.instance.Pin.{Pin}
 use Rattle.flat_circuit.specs.Circuit.{Circuit, IsCircuit, driver, driver_at, instance_in}
 use Rattle.flat_circuit.specs.Instances.{InstanceFits, PinExists}
 use Rattle.fixpoint_engine.specs.Waves.{Waves, pin_wave, pin_waves}
-use Rattle.slack_rows.specs.Limit.{begin_of, told_level}
+use Rattle.slack_rows.specs.Limit.{begin_of, finding_level}
 use Rattle.critical_paths.specs.declared.direction.Direction.{Direction}
 use Rattle.element_kinds.specs.declared.kind.Kind.{Kind}
 use Rattle.element_kinds.specs.Kinds.{may_split}
@@ -28,11 +28,11 @@ use Rattle.pulse_check.specs.Pulse.{Slots}
 use Rattle.slack_rows.specs.declared.slack.By.{By}
 use Rattle.slack_rows.specs.declared.slack.By.TheVariants.{Swallowed}
 use Rattle.slack_rows.specs.declared.slack.Slack.TheVariants.{Ticks as NumberOfTicks}
-use Rattle.slack_rows.specs.declared.slack.Told.{Told as Found}
+use Rattle.slack_rows.specs.declared.slack.Finding.{Finding as Found}
 use Rattle.slack_rows.specs.declared.window.Window.{Window as Ticks}
-use Rattle.slack_rows.specs.Slack.{InPulse, Place, Ticks as TicksLeft, Told, told_at, told_of}
-use Rattle.slack_rows.specs.Pulse.{Pulse, left_at, left_by, left_if, left_in, left_of, left_on, left_once, may_change_again, narrowest, told_wave, width_of}
-use Rattle.slack_rows.specs.Views.{IsNear, IsTold, in_pulse, place_by, place_of, slack_by, told_by_found}
+use Rattle.slack_rows.specs.Slack.{InPulse, Place, Ticks as TicksLeft, Finding, finding_at, finding_of}
+use Rattle.slack_rows.specs.Pulse.{Pulse, left_at, left_by, left_if, left_in, left_of, left_on, left_once, may_change_again, narrowest, finding_wave, width_of}
+use Rattle.slack_rows.specs.Views.{IsNear, IsFinding, in_pulse, place_by, place_of, slack_by, finding_by_found}
 
 -- ---- how wide it is
 
@@ -72,8 +72,8 @@ module _ (p : ℕ) (d : Direction) (limit : ℕ) (pulse : Pulse) (found : Found)
     place_is : place_of p found found.slack ≡ place
     place_is = ap (place_of p found) slack_is ∙ ap (place_by p found) by_is ∙ in_place
 
-    told_is : told_of 0 d (told_at (TicksLeft (width -ℤ pos limit)) place) ≡ told_by_found p found
-    told_is = λ i. record {
+    finding_is : finding_of 0 d (finding_at (TicksLeft (width -ℤ pos limit)) place) ≡ finding_by_found p found
+    finding_is = λ i. record {
       slack = (sym number_is) i;
       place = (sym place_is) i;
       pin = (sym pin_is) i;
@@ -90,17 +90,17 @@ module _ (p : ℕ) (d : Direction) (limit : ℕ) (pulse : Pulse) (found : Found)
   pub tells_whole : (wave : Slots) (left : Option ℤ) (by : By) → found.by ≡ by →
       place_by p found by ≡ in_pulse found →
       width_of pulse limit (left_once (may_change_again wave pulse) left) ≡ width → width ≡ pos pulse.1 →
-      told_of 0 d (told_wave limit left wave (Some pulse)) ≡ told_by_found p found
+      finding_of 0 d (finding_wave limit left wave (Some pulse)) ≡ finding_by_found p found
   tells_whole wave left by by_is placed width_is whole =
-      ap (λ (n : ℤ). told_of 0 d (told_at (TicksLeft (n -ℤ pos limit)) (InPulse pulse.0 pulse.1))) width_is
-      ∙ told_is by by_is (InPulse pulse.0 pulse.1) (placed ∙ whole_pulse whole)
+      ap (λ (n : ℤ). finding_of 0 d (finding_at (TicksLeft (n -ℤ pos limit)) (InPulse pulse.0 pulse.1))) width_is
+      ∙ finding_is by by_is (InPulse pulse.0 pulse.1) (placed ∙ whole_pulse whole)
 
   pub tells_swallowed : (wave : Slots) (left : Option ℤ) → found.by ≡ Swallowed → pulse.1 ≡ 1 →
       width_of pulse limit (left_once (may_change_again wave pulse) left) ≡ width →
-      told_of 0 d (told_wave limit left wave (Some pulse)) ≡ told_by_found p found
+      finding_of 0 d (finding_wave limit left wave (Some pulse)) ≡ finding_by_found p found
   tells_swallowed wave left by_is narrow width_is =
-      ap (λ (n : ℤ). told_of 0 d (told_at (TicksLeft (n -ℤ pos limit)) (InPulse pulse.0 pulse.1))) width_is
-      ∙ told_is Swallowed by_is (InPulse pulse.0 pulse.1) (λ i. InPulse (unsigned_abs (tick_is i)) ((sym narrow) i))
+      ap (λ (n : ℤ). finding_of 0 d (finding_at (TicksLeft (n -ℤ pos limit)) (InPulse pulse.0 pulse.1))) width_is
+      ∙ finding_is Swallowed by_is (InPulse pulse.0 pulse.1) (λ i. InPulse (unsigned_abs (tick_is i)) ((sym narrow) i))
 
 -- ---- by what drives a pin
 
@@ -164,20 +164,20 @@ pin_of_net c pins pin all is =
     subst (PinExists (length c.nets)) (get_or_from_slice_get pins 0 pin pin is)
     (All-get_or (PinExists (length c.nets)) pins 0 pin (slice_get_within pins 0 pin is) all)
 
-pub level_told : (c : Circuit) (ws : Waves) (j : Instance) (level : Bool) (limit : ℕ) (pin : Pin) → slice_get j.pins 0 ≡ Some pin →
-    told_of 0 (begin_of level)
-    (told_wave limit (left_at c ws level pin) (read (pin_wave c ws pin).cells) (narrowest (period c.header) level (read (pin_wave c ws pin).cells)))
-    ≡ told_level c ws j level limit (slice_get j.pins 0)
-level_told c ws j level limit pin is =
+pub level_finding : (c : Circuit) (ws : Waves) (j : Instance) (level : Bool) (limit : ℕ) (pin : Pin) → slice_get j.pins 0 ≡ Some pin →
+    finding_of 0 (begin_of level)
+    (finding_wave limit (left_at c ws level pin) (read (pin_wave c ws pin).cells) (narrowest (period c.header) level (read (pin_wave c ws pin).cells)))
+    ≡ finding_level c ws j level limit (slice_get j.pins 0)
+level_finding c ws j level limit pin is =
     let below = slice_get_within j.pins 0 pin is in
     let wave : pin_wave c ws pin ≡ wave_of_pin (pin_waves c ws j) 0 =
     ap (pin_wave c ws) (sym (get_or_from_slice_get j.pins 0 pin pin is))
     ∙ sym (get_or-map (pin_wave c ws) j.pins 0 pin (skewed [] 0) below) in
-    ap (λ (w : Wave Value). told_of 0 (begin_of level)
-    (told_wave limit (left_at c ws level pin) (read w.cells) (narrowest (period c.header) level (read w.cells)))) wave
-    ∙ ap (told_level c ws j level limit) (sym is)
+    ap (λ (w : Wave Value). finding_of 0 (begin_of level)
+    (finding_wave limit (left_at c ws level pin) (read w.cells) (narrowest (period c.header) level (read w.cells)))) wave
+    ∙ ap (finding_level c ws j level limit) (sym is)
 
 -- what is told by no region
-pub told_near : (p : ℕ) (found : Found) (told : Told) (by : By) → found.by ≡ by → IsNear p found by → told ≡ told_by_found p found →
-    IsTold p found told
-told_near p found told by way near is = record { is = is; near = subst (IsNear p found) (sym way) near }
+pub finding_near : (p : ℕ) (found : Found) (finding : Finding) (by : By) → found.by ≡ by → IsNear p found by → finding ≡ finding_by_found p found →
+    IsFinding p found finding
+finding_near p found finding by way near is = record { is = is; near = subst (IsNear p found) (sym way) near }

@@ -1,6 +1,6 @@
 -- The least of several is broken exactly where one of them is.
 use Rattle.std.proofs.Common.{inl, inr, ◌≡◌, ◌⊎◌, Bool, true, false, cond, refl, sym, ◌∙◌, List, [], ◌∷◌, map}
-use Rattle.slack_rows.specs.Slack.{Slack, Told, is_fewer, is_less, is_broken, least_from}
+use Rattle.slack_rows.specs.Slack.{Slack, Finding, is_fewer, is_less, is_broken, least_from}
 use Rattle.slack_rows.specs.Laws.{SomeOf}
 
 -- ---- the least
@@ -25,12 +25,12 @@ more_breaks a b more broken = by (is_broken b) refl
         (λ i. cond (broken i) (cond (is i) (is_fewer a b) true) (cond (is i) false (is_fewer a b))) in
         absurd (cc (sym yes ∙ more))
 
-module _ {A : Type 0} (at : A → Told) where
+module _ {A : Type 0} (at : A → Finding) where
   abbrev pub BrokenAt : A → Type 0
   BrokenAt w = is_broken (at w).slack ≡ true
 
   -- where the first is broken, or one of the others is, the least is
-  pub least_breaks : (best : Told) (windows : List A) → (is_broken best.slack ≡ true) ⊎ SomeOf BrokenAt windows →
+  pub least_breaks : (best : Finding) (windows : List A) → (is_broken best.slack ≡ true) ⊎ SomeOf BrokenAt windows →
       is_broken (least_from best (map at windows)).slack ≡ true
   least_breaks best [] (inl broken) = broken
   least_breaks best [] (inr none) = absurd none
@@ -38,7 +38,7 @@ module _ {A : Type 0} (at : A → Told) where
       by (is_less (at v).slack best.slack) refl found (λ next some. least_breaks next windows some)
     where
       by : (b : Bool) → is_less (at v).slack best.slack ≡ b → (is_broken best.slack ≡ true) ⊎ SomeOf BrokenAt (v ∷ windows) →
-          ((next : Told) → (is_broken next.slack ≡ true) ⊎ SomeOf BrokenAt windows → is_broken (least_from next (map at windows)).slack ≡ true) →
+          ((next : Finding) → (is_broken next.slack ≡ true) ⊎ SomeOf BrokenAt windows → is_broken (least_from next (map at windows)).slack ≡ true) →
           is_broken (cond b (least_from (at v) (map at windows)) (least_from best (map at windows))).slack ≡ true
       by true is (inl broken) rest = rest (at v) (inl (less_breaks (at v).slack best.slack is broken))
       by true is (inr (inl broken)) rest = rest (at v) (inl broken)
@@ -48,14 +48,14 @@ module _ {A : Type 0} (at : A → Told) where
       by false is (inr (inr more)) rest = rest best (inr more)
 
   -- where the least is broken, the first is or one of the others
-  pub least_broken : (best : Told) (windows : List A) → is_broken (least_from best (map at windows)).slack ≡ true →
+  pub least_broken : (best : Finding) (windows : List A) → is_broken (least_from best (map at windows)).slack ≡ true →
       (is_broken best.slack ≡ true) ⊎ SomeOf BrokenAt windows
   least_broken best [] broken = inl broken
   least_broken best (v ∷ windows) broken =
       by (is_less (at v).slack best.slack) broken (λ next is. least_broken next windows is)
     where
       by : (b : Bool) → is_broken (cond b (least_from (at v) (map at windows)) (least_from best (map at windows))).slack ≡ true →
-          ((next : Told) → is_broken (least_from next (map at windows)).slack ≡ true → (is_broken next.slack ≡ true) ⊎ SomeOf BrokenAt windows) →
+          ((next : Finding) → is_broken (least_from next (map at windows)).slack ≡ true → (is_broken next.slack ≡ true) ⊎ SomeOf BrokenAt windows) →
           (is_broken best.slack ≡ true) ⊎ SomeOf BrokenAt (v ∷ windows)
       by true is rest = elim (rest (at v) is) [ inl first ↦ inr (inl first) | inr more ↦ inr (inr more) ]
       by false is rest = elim (rest best is) [ inl first ↦ inl first | inr more ↦ inr (inr more) ]

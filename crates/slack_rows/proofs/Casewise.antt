@@ -7,17 +7,17 @@ use Rattle.scald_base.specs.Time.{period}
 use Rattle.flat_circuit.specs.Circuit.{Circuit}
 use Rattle.slack_rows.specs.declared.parameter.Parameter.{Parameter}
 use Rattle.slack_rows.specs.declared.rows.Least.{Least}
-use Rattle.slack_rows.specs.declared.slack.Told.{Told as Found}
-use Rattle.slack_rows.specs.Slack.{Slack, Free, Told, is_less, lesser, told_alone}
-use Rattle.slack_rows.specs.Limit.{Case, has_slack, least_told, same_slack, told_case, worst}
+use Rattle.slack_rows.specs.declared.slack.Finding.{Finding as Found}
+use Rattle.slack_rows.specs.Slack.{Slack, Free, Finding, is_less, lesser, finding_alone}
+use Rattle.slack_rows.specs.Limit.{Case, has_slack, least_finding, same_slack, finding_case, worst}
 use Rattle.slack_rows.specs.Known.{AreSets, IsFirst, IsJoined, IsKnown, IsLeast, IsLowered, IsLoweredBy, IsNumbered, numbers_of, places_of}
 use Rattle.slack_rows.specs.Rows.{first_where, first_with}
-use Rattle.slack_rows.specs.Views.{IsTold, Tells, slack_by}
+use Rattle.slack_rows.specs.Views.{IsFinding, Tells, slack_by}
 use Rattle.slack_rows.proofs.Comparing.{less_not, none_less, none_same}
 use Rattle.slack_rows.proofs.Kept.{filter_more}
 use Rattle.slack_rows.proofs.Ordered.{before_free, free_is_last}
 use Rattle.slack_rows.proofs.Places.{numbers_kept, numbers_new, places_new, places_none, within_more, within_new}
-use Rattle.slack_rows.proofs.Tellings.{least_map_more}
+use Rattle.slack_rows.proofs.Findings.{least_map_more}
 
 abbrev number_of_case : Case → ℕ
 number_of_case case = case.number
@@ -47,19 +47,19 @@ first_new test (case ∷ cases) one none passes = by (test case) none (λ more. 
     by false is rest = let same = rest is in omega (arith, same)
 
 module _ (c : Circuit) (cases : List Case) (one : Case) (q : Parameter) where
-  abbrev before : Told
-  before = least_told c cases q.subject q.word
+  abbrev before : Finding
+  before = least_finding c cases q.subject q.word
 
-  abbrev here : Told
-  here = told_case c q.subject q.word one
+  abbrev here : Finding
+  here = finding_case c q.subject q.word one
 
-  abbrev after : Told
-  after = least_told c (cases ++ one ∷ []) q.subject q.word
+  abbrev after : Finding
+  after = least_finding c (cases ++ one ∷ []) q.subject q.word
 
   -- ---- the least
 
   after_is : after ≡ lesser before here
-  after_is = least_map_more (told_case c q.subject q.word) cases one
+  after_is = least_map_more (finding_case c q.subject q.word) cases one
 
   stays : is_less here.slack before.slack ≡ false → after ≡ before
   stays more = after_is ∙ ap (λ (b : Bool). cond b here before) more
@@ -88,40 +88,40 @@ module _ (c : Circuit) (cases : List Case) (one : Case) (q : Parameter) where
   cases_stay : is_less here.slack before.slack ≡ false → is_less before.slack here.slack ≡ true →
       (worst c (cases ++ one ∷ []) q.subject q.word).cases ≡ (worst c cases q.subject q.word).cases
   cases_stay more less =
-      ap (λ (told : Told). map number_of_case (have told.slack (cases ++ one ∷ []))) (stays more)
+      ap (λ (finding : Finding). map number_of_case (have finding.slack (cases ++ one ∷ []))) (stays more)
       ∙ have_more before.slack false (differs (is_less here.slack before.slack) (is_less before.slack here.slack) less)
       ∙ ap (map number_of_case) (append-nil (have before.slack cases))
 
   cases_join : is_less here.slack before.slack ≡ false → is_less before.slack here.slack ≡ false →
       (worst c (cases ++ one ∷ []) q.subject q.word).cases ≡ (worst c cases q.subject q.word).cases ++ one.number ∷ []
   cases_join more less =
-      ap (λ (told : Told). map number_of_case (have told.slack (cases ++ one ∷ []))) (stays more)
+      ap (λ (finding : Finding). map number_of_case (have finding.slack (cases ++ one ∷ []))) (stays more)
       ∙ have_more before.slack true (equals (is_less here.slack before.slack) (is_less before.slack here.slack) more less)
       ∙ map-append number_of_case (have before.slack cases) (one ∷ [])
 
   cases_begin : is_less here.slack before.slack ≡ true →
       (worst c (cases ++ one ∷ []) q.subject q.word).cases ≡ one.number ∷ []
   cases_begin less =
-      ap (λ (told : Told). map number_of_case (have told.slack (cases ++ one ∷ []))) (falls less)
+      ap (λ (finding : Finding). map number_of_case (have finding.slack (cases ++ one ∷ []))) (falls less)
       ∙ have_more here.slack true (equals (is_less here.slack here.slack) (is_less here.slack here.slack) (less_not here.slack) (less_not here.slack))
       ∙ ap (λ (some : List Case). map number_of_case (some ++ one ∷ []))
-      (none_same (told_case c q.subject q.word) here.slack before.slack cases less
-      (none_less (told_case c q.subject q.word) (told_alone Free) cases))
+      (none_same (finding_case c q.subject q.word) here.slack before.slack cases less
+      (none_less (finding_case c q.subject q.word) (finding_alone Free) cases))
 
   -- ---- the first that has it
 
   first_stays : is_less here.slack before.slack ≡ false → first_with c cases q.subject q.word < length cases →
       first_with c (cases ++ one ∷ []) q.subject q.word ≡ first_with c cases q.subject q.word
   first_stays more below =
-      ap (λ (told : Told). first_where (has_slack c q.subject q.word told.slack) (cases ++ one ∷ [])) (stays more)
+      ap (λ (finding : Finding). first_where (has_slack c q.subject q.word finding.slack) (cases ++ one ∷ [])) (stays more)
       ∙ first_kept (has_slack c q.subject q.word before.slack) cases one below
 
   first_begins : is_less here.slack before.slack ≡ true → first_with c (cases ++ one ∷ []) q.subject q.word ≡ length cases
   first_begins less =
-      ap (λ (told : Told). first_where (has_slack c q.subject q.word told.slack) (cases ++ one ∷ [])) (falls less)
+      ap (λ (finding : Finding). first_where (has_slack c q.subject q.word finding.slack) (cases ++ one ∷ [])) (falls less)
       ∙ first_new (has_slack c q.subject q.word here.slack) cases one
-      (none_same (told_case c q.subject q.word) here.slack before.slack cases less
-      (none_less (told_case c q.subject q.word) (told_alone Free) cases))
+      (none_same (finding_case c q.subject q.word) here.slack before.slack cases less
+      (none_less (finding_case c q.subject q.word) (finding_alone Free) cases))
       (equals (is_less here.slack here.slack) (is_less here.slack here.slack) (less_not here.slack) (less_not here.slack))
 
   -- ---- their numbers
@@ -150,7 +150,7 @@ module _ (c : Circuit) (cases : List Case) (one : Case) (q : Parameter) where
         IsLeast c cases sets q least → IsLeast c (cases ++ one ∷ []) new q least
     kept least more less same known =
         record {
-          told = subst (IsTold (period c.header) least.told) (sym (stays more)) known.told;
+          finding = subst (IsFinding (period c.header) least.finding) (sym (stays more)) known.finding;
           in_case = first_stays more (below_all least known) ∙ known.in_case;
           have_it =
               ap (λ (numbers : List ℕ). numbers_of numbers (places_of new least.cases)) numbers_more
@@ -172,9 +172,9 @@ module _ (c : Circuit) (cases : List Case) (one : Case) (q : Parameter) where
         places_new sets are (least.cases, case) found.cases new numbered is.set in
         let places : List ℕ = places_of sets least.cases in
         record {
-          told =
-              subst (IsTold (period c.header) found.told) (sym (stays more))
-              (subst (λ (f : Found). IsTold (period c.header) f before) (sym is.same_told) known.told);
+          finding =
+              subst (IsFinding (period c.header) found.finding) (sym (stays more))
+              (subst (λ (f : Found). IsFinding (period c.header) f before) (sym is.same_finding) known.finding);
           in_case = first_stays more (below_all least known) ∙ known.in_case ∙ sym is.same_case;
           have_it =
               ap (λ (numbers : List ℕ). numbers_of numbers (places_of new found.cases)) numbers_more
@@ -194,16 +194,16 @@ module _ (c : Circuit) (cases : List Case) (one : Case) (q : Parameter) where
               (within_new (length cases) (places_of sets least.cases) known.within)));
         }
 
-    begun : (told : Found) (found : Least) (case : ℕ) → case ≡ length cases → IsTold (period c.header) told here →
-        is_less here.slack before.slack ≡ true → IsFirst sets told case new found → IsLeast c (cases ++ one ∷ []) new q found
-    begun told found case last tells less is =
+    begun : (finding : Found) (found : Least) (case : ℕ) → case ≡ length cases → IsFinding (period c.header) finding here →
+        is_less here.slack before.slack ≡ true → IsFirst sets finding case new found → IsLeast c (cases ++ one ∷ []) new q found
+    begun finding found case last tells less is =
         let at : places_of new found.cases ≡ case ∷ [] =
         places_new sets are (0, case) found.cases new (omega arith) is.set
         ∙ ap (λ (some : List ℕ). some ++ case ∷ []) (places_none sets) in
         record {
-          told =
-              subst (IsTold (period c.header) found.told) (sym (falls less))
-              (subst (λ (f : Found). IsTold (period c.header) f here) (sym is.same_told) tells);
+          finding =
+              subst (IsFinding (period c.header) found.finding) (sym (falls less))
+              (subst (λ (f : Found). IsFinding (period c.header) f here) (sym is.same_finding) tells);
           in_case = first_begins less ∙ sym last ∙ sym is.same_case;
           have_it =
               ap (λ (numbers : List ℕ). numbers_of numbers (places_of new found.cases)) numbers_more
@@ -218,33 +218,33 @@ module _ (c : Circuit) (cases : List Case) (one : Case) (q : Parameter) where
         }
 
     -- with what is told in the case more
-    pub known_more : (least found : Option Least) (told : Option Found) (case : ℕ) → case ≡ length cases →
-        IsNumbered sets least → Tells (period c.header) told here → IsKnown c cases sets q least →
-        IsLowered sets least told case new found → IsKnown c (cases ++ one ∷ []) new q found
+    pub known_more : (least found : Option Least) (finding : Option Found) (case : ℕ) → case ≡ length cases →
+        IsNumbered sets least → Tells (period c.header) finding here → IsKnown c cases sets q least →
+        IsLowered sets least finding case new found → IsKnown c (cases ++ one ∷ []) new q found
     known_more None found None case last numbered tells known is =
         let more : is_less here.slack before.slack ≡ false =
         ap (λ (s : Slack). is_less s before.slack) tells ∙ free_is_last before.slack in
-        subst (IsKnown c (cases ++ one ∷ []) new q) (sym is.same) (ap (λ (told : Told). told.slack) (stays more) ∙ known)
+        subst (IsKnown c (cases ++ one ∷ []) new q) (sym is.same) (ap (λ (finding : Finding). finding.slack) (stays more) ∙ known)
     known_more (Some least) found None case last numbered tells known is =
         let more : is_less here.slack before.slack ≡ false =
         ap (λ (s : Slack). is_less s before.slack) tells ∙ free_is_last before.slack in
         let less : is_less before.slack here.slack ≡ true =
-        ap (λ (s : Slack). is_less before.slack s) tells ∙ ap (λ (told : Told). is_less told.slack Free) known.told.is ∙ before_free least.told.slack in
+        ap (λ (s : Slack). is_less before.slack s) tells ∙ ap (λ (finding : Finding). is_less finding.slack Free) known.finding.is ∙ before_free least.finding.slack in
         subst (IsKnown c (cases ++ one ∷ []) new q) (sym is.same) (kept least more less is.same_sets known)
-    known_more None None (Some told) case last numbered tells known is = absurd is
-    known_more None (Some found) (Some told) case last numbered tells known is =
-        begun told found case last tells
-        (ap (λ (s : Slack). is_less here.slack s) known ∙ ap (λ (t : Told). is_less t.slack Free) tells.is ∙ before_free told.slack) is
-    known_more (Some least) found (Some told) case last numbered tells known is =
-        by (is_less (slack_by told.slack) (slack_by least.told.slack)) (is_less (slack_by least.told.slack) (slack_by told.slack))
-        (ap (λ (t : Told). is_less t.slack before.slack) tells.is ∙ ap (λ (t : Told). is_less (slack_by told.slack) t.slack) known.told.is)
-        (ap (λ (t : Told). is_less before.slack t.slack) tells.is ∙ ap (λ (t : Told). is_less t.slack (slack_by told.slack)) known.told.is)
+    known_more None None (Some finding) case last numbered tells known is = absurd is
+    known_more None (Some found) (Some finding) case last numbered tells known is =
+        begun finding found case last tells
+        (ap (λ (s : Slack). is_less here.slack s) known ∙ ap (λ (t : Finding). is_less t.slack Free) tells.is ∙ before_free finding.slack) is
+    known_more (Some least) found (Some finding) case last numbered tells known is =
+        by (is_less (slack_by finding.slack) (slack_by least.finding.slack)) (is_less (slack_by least.finding.slack) (slack_by finding.slack))
+        (ap (λ (t : Finding). is_less t.slack before.slack) tells.is ∙ ap (λ (t : Finding). is_less (slack_by finding.slack) t.slack) known.finding.is)
+        (ap (λ (t : Finding). is_less before.slack t.slack) tells.is ∙ ap (λ (t : Finding). is_less t.slack (slack_by finding.slack)) known.finding.is)
         found is
       where
         by : (a b : Bool) → is_less here.slack before.slack ≡ a → is_less before.slack here.slack ≡ b → (some : Option Least) →
-            IsLoweredBy a b sets least told case new some → IsKnown c (cases ++ one ∷ []) new q some
+            IsLoweredBy a b sets least finding case new some → IsKnown c (cases ++ one ∷ []) new q some
         by true b less other None lowered = absurd lowered
-        by true b less other (Some some) lowered = begun told some case last tells less lowered
+        by true b less other (Some some) lowered = begun finding some case last tells less lowered
         by false true less other some lowered =
             subst (IsKnown c (cases ++ one ∷ []) new q) (sym lowered.same) (kept least less other lowered.same_sets known)
         by false false less other None lowered = absurd lowered

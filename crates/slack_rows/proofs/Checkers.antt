@@ -36,11 +36,11 @@ use Rattle.critical_paths.proofs.Searches.{first_is}
 use Rattle.slack_rows.specs.declared.window.Extent.{Extent}
 use Rattle.slack_rows.specs.declared.parameter.Word.{Word as Limit}
 use Rattle.slack_rows.specs.declared.parameter.Word.TheVariants.{Setup, Hold}
-use Rattle.slack_rows.specs.Slack.{Free, Launches, Told, is_broken, told_after, told_alone, told_before}
+use Rattle.slack_rows.specs.Slack.{Free, Launches, Finding, is_broken, finding_after, finding_alone, finding_before}
 use Rattle.slack_rows.specs.Window.{about}
 use Rattle.slack_rows.specs.Watch.{rise_watch, span_watch}
 use Rattle.slack_rows.specs.Launched.{checker_launches}
-use Rattle.slack_rows.specs.Limit.{edge_limits, has_no_window, least_still, pin_folds, rises_of, spans_of, still_after, still_before, told_check, edge_pair, told_in, told_instance, told_mark, told_still}
+use Rattle.slack_rows.specs.Limit.{edge_limits, has_no_window, least_still, pin_folds, rises_of, spans_of, still_after, still_before, finding_check, edge_pair, finding_in, finding_instance, finding_mark, finding_still}
 use Rattle.slack_rows.specs.Laws.{AreWaves, EdgesBreakWithFaults, IsBroken, IsPlaced, SomeOf}
 use Rattle.slack_rows.proofs.Broken.{least_broken}
 use Rattle.slack_rows.proofs.Watched.{broken_where_touched}
@@ -108,18 +108,18 @@ module _ (p : ℕ) (ev : Events) where
 not_negative : (n : ℕ) → int_lt (pos n) (pos 0) ≡ true → ⊥
 not_negative n is = absurd (grind (arith, ints))
 
-still_holds : (o : Option ℕ) → is_broken (told_still o).slack ≡ true → ⊥
+still_holds : (o : Option ℕ) → is_broken (finding_still o).slack ≡ true → ⊥
 still_holds None broken = absurd (cc)
 still_holds (Some n) broken = not_negative n broken
 
-none_breaks : (still : ℕ → Option ℕ) (ts : List ℕ) → SomeOf (λ t. is_broken (told_still (still t)).slack ≡ true) ts → ⊥
+none_breaks : (still : ℕ → Option ℕ) (ts : List ℕ) → SomeOf (λ t. is_broken (finding_still (still t)).slack ≡ true) ts → ⊥
 none_breaks still [] none = none
 none_breaks still (t ∷ ts) (inl here) = still_holds (still t) here
 none_breaks still (t ∷ ts) (inr more) = none_breaks still ts more
 
 least_holds : (still : ℕ → Option ℕ) (p : ℕ) (clock : Events) → IsBroken (least_still still p clock) → ⊥
 least_holds still p clock broken =
-    elim (least_broken (λ t. told_still (still t)) (told_alone Free) (filter clock (range_with_len 0 p)) broken) [
+    elim (least_broken (λ t. finding_still (still t)) (finding_alone Free) (filter clock (range_with_len 0 p)) broken) [
       | inl none ↦ absurd (cc)
       | inr some ↦ none_breaks still (filter clock (range_with_len 0 p)) some
     ]
@@ -147,7 +147,7 @@ module _ (p k : ℕ) (long : 2 ≤ p) (clock input : Folds) (clock_cyclic : (t :
   changes_cyclic t = ap (λ v. moves Change (has v)) (input_cyclic t)
 
   pub rise_breaks : (launches : Launches) → 1 ≤ setup_of limits + hold_of limits →
-      faulty ↔ (IsBroken (told_before p launches (rise_watch p (edge_limits limits) clock input)) ⊎ IsBroken (told_after p launches (rise_watch p (edge_limits limits) clock input)))
+      faulty ↔ (IsBroken (finding_before p launches (rise_watch p (edge_limits limits) clock input)) ⊎ IsBroken (finding_after p launches (rise_watch p (edge_limits limits) clock input)))
   rise_breaks launches some =
       let breaks = broken_where_touched p launches (rise_watch p (edge_limits limits) clock input) long changes_cyclic (all_placed p (events Rise clock) (edge_limits limits) some short) in (
         λ found. breaks.1 (rise_touches p long clock input clock_cyclic input_cyclic limits short (found_faulty SetupHold p k clock input limits found)),
@@ -169,7 +169,7 @@ module _ (p k : ℕ) (long : 2 ≤ p) (clock input : Folds) (clock_cyclic : (t :
     (input_cyclic : (t : ℕ) → input (t + p) ≡ input t) (limits : Limits) (short : setup_of limits + hold_of limits ≤ p) where
   pub span_breaks : (launches : Launches) →
       (is_some (first_fault RiseFall p k clock input limits) ≡ true)
-      ↔ (IsBroken (told_before p launches (span_watch p (edge_limits limits) clock input)) ⊎ IsBroken (told_after p launches (span_watch p (edge_limits limits) clock input)))
+      ↔ (IsBroken (finding_before p launches (span_watch p (edge_limits limits) clock input)) ⊎ IsBroken (finding_after p launches (span_watch p (edge_limits limits) clock input)))
   span_breaks launches =
       let breaks = broken_where_touched p launches (span_watch p (edge_limits limits) clock input) long (λ t. ap (λ v. moves Change (has v)) (input_cyclic t))
       (all_spans_placed p long clock input clock_cyclic input_cyclic limits short) in (
@@ -181,14 +181,14 @@ module _ (p k : ℕ) (long : 2 ≤ p) (clock input : Folds) (clock_cyclic : (t :
 abbrev fault_by_of : Kind → Circuit → Waves → ℕ → Instance → Option Fault
 fault_by_of kind c ws k j = fault_by (checks_points kind) (may_be_marked kind) c ws k j
 
-abbrev told_by_kind : Kind → Circuit → Waves → Instance → Limit → Told
-told_by_kind kind c ws j limit =
-    cond (may_be_marked kind) (told_mark c ws j limit (marked_pin j)) (told_check c ws j limit (check_of kind))
+abbrev finding_by_kind : Kind → Circuit → Waves → Instance → Limit → Finding
+finding_by_kind kind c ws j limit =
+    cond (may_be_marked kind) (finding_mark c ws j limit (marked_pin j)) (finding_check c ws j limit (check_of kind))
 
 abbrev BreakWithFault : Kind → Circuit → Waves → ℕ → Instance → Type 0
 BreakWithFault kind c ws k j =
     (is_some (fault_by_of kind c ws k j) ≡ true)
-    ↔ (IsBroken (told_by_kind kind c ws j Setup) ⊎ IsBroken (told_by_kind kind c ws j Hold))
+    ↔ (IsBroken (finding_by_kind kind c ws j Setup) ⊎ IsBroken (finding_by_kind kind c ws j Hold))
 
 module _ (c : Circuit) (ws : Waves) (k : ℕ) (j : Instance) (are : AreWaves c ws) (at : slice_get c.instances k ≡ Some j)
     (two : 2 ≤ length j.pins) (short : setup_of j.limits + hold_of j.limits ≤ period c.header) where
@@ -209,8 +209,8 @@ module _ (c : Circuit) (ws : Waves) (k : ℕ) (j : Instance) (are : AreWaves c w
 
   at_rise : (b : Bool) → has_no_window (edge_limits j.limits) ≡ b →
       (is_some (first_fault SetupHold (period c.header) k clock input j.limits) ≡ true)
-      ↔ (IsBroken (cond b (edge_pair still_before c ws j) (told_before (period c.header) (checker_launches c ws j Rise (rises_of c ws j).windows) (rises_of c ws j)))
-      ⊎ IsBroken (cond b (edge_pair still_after c ws j) (told_after (period c.header) (checker_launches c ws j Rise (rises_of c ws j).windows) (rises_of c ws j))))
+      ↔ (IsBroken (cond b (edge_pair still_before c ws j) (finding_before (period c.header) (checker_launches c ws j Rise (rises_of c ws j).windows) (rises_of c ws j)))
+      ⊎ IsBroken (cond b (edge_pair still_after c ws j) (finding_after (period c.header) (checker_launches c ws j Rise (rises_of c ws j).windows) (rises_of c ws j))))
   at_rise true none = (
     λ found. absurd (rise_without (period c.header) k long clock input clock_repeats input_repeats j.limits short (no_window (setup_of j.limits) (hold_of j.limits) none) found),
     λ broken. absurd (elim broken [
@@ -223,8 +223,8 @@ module _ (c : Circuit) (ws : Waves) (k : ℕ) (j : Instance) (are : AreWaves c w
       (checker_launches c ws j Rise (rises_of c ws j).windows) (some_window (setup_of j.limits) (hold_of j.limits) some)
 
   at_span : (is_some (first_fault RiseFall (period c.header) k clock input j.limits) ≡ true)
-      ↔ (IsBroken (told_before (period c.header) (checker_launches c ws j Fall (spans_of c ws j).windows) (spans_of c ws j))
-      ⊎ IsBroken (told_after (period c.header) (checker_launches c ws j Fall (spans_of c ws j).windows) (spans_of c ws j)))
+      ↔ (IsBroken (finding_before (period c.header) (checker_launches c ws j Fall (spans_of c ws j).windows) (spans_of c ws j))
+      ⊎ IsBroken (finding_after (period c.header) (checker_launches c ws j Fall (spans_of c ws j).windows) (spans_of c ws j)))
   at_span =
       span_breaks (period c.header) k long clock input clock_repeats input_repeats j.limits short
       (checker_launches c ws j Fall (spans_of c ws j).windows)
@@ -270,15 +270,15 @@ points_by c ws k j are at RiseFall is points =
     (λ faulty. both.0 (sym found ∙ faulty), λ broken. found ∙ both.1 broken)
 
 pub edges_break_with_faults : EdgesBreakWithFaults
-unfolding instance_fault told_in
+unfolding instance_fault finding_in
 edges_break_with_faults c ws k j are at points =
     let both = points_by c ws k j are at j.kind refl points in
     let fault_is : is_some (fault_of c ws k (slice_get c.instances k)) ≡ is_some (fault_by_of j.kind c ws k j) =
     ap (λ o. is_some (fault_of c ws k o)) at in
-    let before_is : is_broken (told_instance c ws Setup (slice_get c.instances k)).slack ≡ is_broken (told_by_kind j.kind c ws j Setup).slack =
-    ap (λ o. is_broken (told_instance c ws Setup o).slack) at in
-    let after_is : is_broken (told_instance c ws Hold (slice_get c.instances k)).slack ≡ is_broken (told_by_kind j.kind c ws j Hold).slack =
-    ap (λ o. is_broken (told_instance c ws Hold o).slack) at in (
+    let before_is : is_broken (finding_instance c ws Setup (slice_get c.instances k)).slack ≡ is_broken (finding_by_kind j.kind c ws j Setup).slack =
+    ap (λ o. is_broken (finding_instance c ws Setup o).slack) at in
+    let after_is : is_broken (finding_instance c ws Hold (slice_get c.instances k)).slack ≡ is_broken (finding_by_kind j.kind c ws j Hold).slack =
+    ap (λ o. is_broken (finding_instance c ws Hold o).slack) at in (
       λ found. elim (both.0 (sym fault_is ∙ found)) [ inl before ↦ inl (before_is ∙ before) | inr after ↦ inr (after_is ∙ after) ],
       λ broken. fault_is ∙ both.1 (elim broken [ inl before ↦ inl (sym before_is ∙ before) | inr after ↦ inr (sym after_is ∙ after) ]),
     )

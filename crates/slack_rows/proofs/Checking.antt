@@ -22,15 +22,15 @@ use Rattle.critical_paths.specs.Views.{IsPin}
 use Rattle.slack_rows.specs.declared.parameter.Word.TheVariants.{Setup, Hold}
 use Rattle.slack_rows.specs.declared.held.Held.{Held}
 use Rattle.slack_rows.specs.declared.slack.Slacks.{Slacks}
-use Rattle.slack_rows.specs.declared.slack.Told.{Told as Answer}
+use Rattle.slack_rows.specs.declared.slack.Finding.{Finding as Answer}
 use Rattle.slack_rows.specs.Held.{AreSlots, IsHeld, TellSides, TellWatch, launches_of, two_of}
 use Rattle.slack_rows.specs.Launched.{checker_launches, two_at_ends}
-use Rattle.slack_rows.specs.Limit.{check_by_arrivals, edge_limits, has_no_window, is_by_arrivals, pin_folds, rises_of, spans_of, still_after, still_before, told_check, edge_pair}
-use Rattle.slack_rows.specs.Slack.{Free, Told, Watch, after_window, before_window, told_after, told_before, told_of}
+use Rattle.slack_rows.specs.Limit.{check_by_arrivals, edge_limits, has_no_window, is_by_arrivals, pin_folds, rises_of, spans_of, still_after, still_before, finding_check, edge_pair}
+use Rattle.slack_rows.specs.Slack.{Free, Finding, Watch, after_window, before_window, finding_after, finding_before, finding_of}
 use Rattle.slack_rows.specs.Views.{Tells, checks_edges}
-use Rattle.slack_rows.proofs.Alike.{alike_none, alike_told}
+use Rattle.slack_rows.proofs.Alike.{alike_none, alike_finding}
 use Rattle.slack_rows.proofs.Parting.{check_after, check_alike, check_before, none_parts, quiet_free, some_parts}
-use Rattle.slack_rows.proofs.Watching.{nothing_here, some_where_all, something_here, told_free}
+use Rattle.slack_rows.proofs.Watching.{nothing_here, some_where_all, something_here, finding_free}
 
 -- ---- pins
 
@@ -67,13 +67,13 @@ module _ (c : Circuit) (ws : Waves) (j : Instance) where
   abbrev p : ℕ
   p = period c.header
 
-  abbrev pub ToldBoth : Check → Slacks → Type 0
-  ToldBoth check found =
-      TellSides p (check_by_arrivals c ws j (Some check)) (told_check c ws j Setup (Some check)) (told_check c ws j Hold (Some check)) found
+  abbrev pub FindingBoth : Check → Slacks → Type 0
+  FindingBoth check found =
+      TellSides p (check_by_arrivals c ws j (Some check)) (finding_check c ws j Setup (Some check)) (finding_check c ws j Hold (Some check)) found
 
   abbrev AreFree : Check → Type 0
   AreFree check =
-      ((told_check c ws j Setup (Some check)).slack ≡ Free) × ((told_check c ws j Hold (Some check)).slack ≡ Free)
+      ((finding_check c ws j Setup (Some check)).slack ≡ Free) × ((finding_check c ws j Hold (Some check)).slack ≡ Free)
 
   -- an input that never changes
   pub free_check : (check : Check) → checks_edges check ≡ true → IsCyclic p (events Change (pin_folds c ws j 1)) → 2 ≤ p →
@@ -81,59 +81,59 @@ module _ (c : Circuit) (ws : Waves) (j : Instance) where
   free_check Widths edges cyclic long none = absurd (cc)
   free_check RiseToFall edges cyclic long none =
       let launches = checker_launches c ws j Fall (spans_of c ws j).windows in (
-        ap (λ (told : Told). told.slack)
-            (told_free (before_window p (spans_of c ws j).changes launches) p (spans_of c ws j) launches.last_way none),
-        ap (λ (told : Told). told.slack)
-            (told_free (after_window p (spans_of c ws j).changes launches) p (spans_of c ws j) launches.first_way none),
+        ap (λ (finding : Finding). finding.slack)
+            (finding_free (before_window p (spans_of c ws j).changes launches) p (spans_of c ws j) launches.last_way none),
+        ap (λ (finding : Finding). finding.slack)
+            (finding_free (after_window p (spans_of c ws j).changes launches) p (spans_of c ws j) launches.first_way none),
       )
   free_check AboutRise edges cyclic long none = by (has_no_window (edge_limits j.limits))
     where
       by : (b : Bool) →
-          ((cond b (edge_pair still_before c ws j) (told_before p (checker_launches c ws j Rise (rises_of c ws j).windows) (rises_of c ws j))).slack ≡ Free)
-          × ((cond b (edge_pair still_after c ws j) (told_after p (checker_launches c ws j Rise (rises_of c ws j).windows) (rises_of c ws j))).slack ≡ Free)
+          ((cond b (edge_pair still_before c ws j) (finding_before p (checker_launches c ws j Rise (rises_of c ws j).windows) (rises_of c ws j))).slack ≡ Free)
+          × ((cond b (edge_pair still_after c ws j) (finding_after p (checker_launches c ws j Rise (rises_of c ws j).windows) (rises_of c ws j))).slack ≡ Free)
       by true =
           let free = quiet_free p (events Change (pin_folds c ws j 1)) cyclic long none (events Rise (pin_folds c ws j 0)) in
-          (ap (λ (told : Told). told.slack) free.0, ap (λ (told : Told). told.slack) free.1)
+          (ap (λ (finding : Finding). finding.slack) free.0, ap (λ (finding : Finding). finding.slack) free.1)
       by false =
           let launches = checker_launches c ws j Rise (rises_of c ws j).windows in (
-            ap (λ (told : Told). told.slack)
-                (told_free (before_window p (rises_of c ws j).changes launches) p (rises_of c ws j) launches.last_way none),
-            ap (λ (told : Told). told.slack)
-                (told_free (after_window p (rises_of c ws j).changes launches) p (rises_of c ws j) launches.first_way none),
+            ap (λ (finding : Finding). finding.slack)
+                (finding_free (before_window p (rises_of c ws j).changes launches) p (rises_of c ws j) launches.last_way none),
+            ap (λ (finding : Finding). finding.slack)
+                (finding_free (after_window p (rises_of c ws j).changes launches) p (rises_of c ws j) launches.first_way none),
           )
 
-  pub free_both : (check : Check) (found : Slacks) → found ≡ record { level = None; before = None; after = None } → AreFree check → ToldBoth check found
+  pub free_both : (check : Check) (found : Slacks) → found ≡ record { level = None; before = None; after = None } → AreFree check → FindingBoth check found
   free_both check found is free =
       let before = ap (λ (s : Slacks). s.before) is in
       let after = ap (λ (s : Slacks). s.after) is in
       record {
-        before = λ exact. subst (λ (o : Option Answer). Tells p o (told_check c ws j Setup (Some check))) (sym before) free.0;
-        after = λ exact. subst (λ (o : Option Answer). Tells p o (told_check c ws j Hold (Some check))) (sym after) free.1;
-        alike = alike_none found (told_check c ws j Setup (Some check)).slack (told_check c ws j Hold (Some check)).slack before after free.0 free.1;
+        before = λ exact. subst (λ (o : Option Answer). Tells p o (finding_check c ws j Setup (Some check))) (sym before) free.0;
+        after = λ exact. subst (λ (o : Option Answer). Tells p o (finding_check c ws j Hold (Some check))) (sym after) free.1;
+        alike = alike_none found (finding_check c ws j Setup (Some check)).slack (finding_check c ws j Hold (Some check)).slack before after free.0 free.1;
       }
 
   -- what is told exactly
-  exact_both : (check : Check) (found : Slacks) → Tells p found.before (told_check c ws j Setup (Some check)) →
-      Tells p found.after (told_check c ws j Hold (Some check)) → ToldBoth check found
+  exact_both : (check : Check) (found : Slacks) → Tells p found.before (finding_check c ws j Setup (Some check)) →
+      Tells p found.after (finding_check c ws j Hold (Some check)) → FindingBoth check found
   exact_both check found before after =
       record {
         before = λ exact. before;
         after = λ exact. after;
-        alike = alike_told p found (told_check c ws j Setup (Some check)) (told_check c ws j Hold (Some check)) before after;
+        alike = alike_finding p found (finding_check c ws j Setup (Some check)) (finding_check c ws j Hold (Some check)) before after;
       }
 
   -- a checker that asks for nothing
   pub quiet_check : (check : Check) (found : Slacks) → check ≡ AboutRise → has_no_window (edge_limits j.limits) ≡ true →
-      Tells p found.before (told_of 1 Change (edge_pair still_before c ws j)) →
-      Tells p found.after (told_of 1 Change (edge_pair still_after c ws j)) → ToldBoth check found
+      Tells p found.before (finding_of 1 Change (edge_pair still_before c ws j)) →
+      Tells p found.after (finding_of 1 Change (edge_pair still_after c ws j)) → FindingBoth check found
   quiet_check check found is nothing before after =
-      subst (λ (x : Check). ToldBoth x found) (sym is)
+      subst (λ (x : Check). FindingBoth x found) (sym is)
       (exact_both AboutRise found
       (subst (λ (b : Bool).
-      Tells p found.before (told_of 1 Change (cond b (edge_pair still_before c ws j) (told_before p (checker_launches c ws j Rise (rises_of c ws j).windows) (rises_of c ws j)))))
+      Tells p found.before (finding_of 1 Change (cond b (edge_pair still_before c ws j) (finding_before p (checker_launches c ws j Rise (rises_of c ws j).windows) (rises_of c ws j)))))
       (sym nothing) before)
       (subst (λ (b : Bool).
-      Tells p found.after (told_of 1 Change (cond b (edge_pair still_after c ws j) (told_after p (checker_launches c ws j Rise (rises_of c ws j).windows) (rises_of c ws j)))))
+      Tells p found.after (finding_of 1 Change (cond b (edge_pair still_after c ws j) (finding_after p (checker_launches c ws j Rise (rises_of c ws j).windows) (rises_of c ws j)))))
       (sym nothing) after))
 
   module _ (held : Held) (pin_is : slice_get j.pins 1 ≡ Some held.pin) (clock_is : slice_get j.pins 0 ≡ Some held.clock)
@@ -144,8 +144,8 @@ module _ (c : Circuit) (ws : Waves) (j : Instance) where
 
     checked : (closing : Direction) (watch : Watch) (found : Slacks) → HeldWatch watch found →
         TellSides p (is_by_arrivals p (two_at_ends c ws j 0 1 Rise) watch)
-        (told_of 1 Change (told_before p (checker_launches c ws j closing watch.windows) watch))
-        (told_of 1 Change (told_after p (checker_launches c ws j closing watch.windows) watch)) found
+        (finding_of 1 Change (finding_before p (checker_launches c ws j closing watch.windows) watch))
+        (finding_of 1 Change (finding_after p (checker_launches c ws j closing watch.windows) watch)) found
     checked closing watch found tell =
         let at = subst (λ (n : ℕ). TellWatch p (launches_of c ws (Some held)) (is_by_arrivals p (two_of c ws (Some held)) watch) n Change watch found) place_is tell in
         record {
@@ -156,23 +156,23 @@ module _ (c : Circuit) (ws : Waves) (j : Instance) where
 
     -- from rises to falls
     pub span_check : {E : Type 0} (check : Check) (r : Result Slacks E) → check ≡ RiseToFall →
-        IfOk r (HeldWatch (spans_of c ws j)) → IfOk r (ToldBoth check)
-    span_check check r is told =
-        IfOk-weaker r (HeldWatch (spans_of c ws j)) (ToldBoth check)
-        (λ found tell. subst (λ (x : Check). ToldBoth x found) (sym is) (checked Fall (spans_of c ws j) found tell))
-        told
+        IfOk r (HeldWatch (spans_of c ws j)) → IfOk r (FindingBoth check)
+    span_check check r is finding =
+        IfOk-weaker r (HeldWatch (spans_of c ws j)) (FindingBoth check)
+        (λ found tell. subst (λ (x : Check). FindingBoth x found) (sym is) (checked Fall (spans_of c ws j) found tell))
+        finding
 
     -- about rises
-    abbrev ToldBy : Bool → Slacks → Type 0
-    ToldBy none found =
+    abbrev FindingBy : Bool → Slacks → Type 0
+    FindingBy none found =
         TellSides p (cond none false (is_by_arrivals p (two_at_ends c ws j 0 1 Rise) (rises_of c ws j)))
-        (told_of 1 Change (cond none (edge_pair still_before c ws j) (told_before p (checker_launches c ws j Rise (rises_of c ws j).windows) (rises_of c ws j))))
-        (told_of 1 Change (cond none (edge_pair still_after c ws j) (told_after p (checker_launches c ws j Rise (rises_of c ws j).windows) (rises_of c ws j)))) found
+        (finding_of 1 Change (cond none (edge_pair still_before c ws j) (finding_before p (checker_launches c ws j Rise (rises_of c ws j).windows) (rises_of c ws j))))
+        (finding_of 1 Change (cond none (edge_pair still_after c ws j) (finding_after p (checker_launches c ws j Rise (rises_of c ws j).windows) (rises_of c ws j)))) found
 
     pub rise_check : {E : Type 0} (check : Check) (r : Result Slacks E) → check ≡ AboutRise → has_no_window (edge_limits j.limits) ≡ false →
-        IfOk r (HeldWatch (rises_of c ws j)) → IfOk r (ToldBoth check)
-    rise_check check r is some told =
-        IfOk-weaker r (HeldWatch (rises_of c ws j)) (ToldBoth check)
-        (λ found tell. subst (λ (x : Check). ToldBoth x found) (sym is)
-        (subst (λ (b : Bool). ToldBy b found) (sym some) (checked Rise (rises_of c ws j) found tell)))
-        told
+        IfOk r (HeldWatch (rises_of c ws j)) → IfOk r (FindingBoth check)
+    rise_check check r is some finding =
+        IfOk-weaker r (HeldWatch (rises_of c ws j)) (FindingBoth check)
+        (λ found tell. subst (λ (x : Check). FindingBoth x found) (sym is)
+        (subst (λ (b : Bool). FindingBy b found) (sym some) (checked Rise (rises_of c ws j) found tell)))
+        finding

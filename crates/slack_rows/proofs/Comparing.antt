@@ -3,7 +3,7 @@ use Rattle.std.proofs.Common.{◌≡◌, Bool, true, false, not, ◌&&◌, cond,
 use Rattle.std.specs.Prelude.{ℤ, int_lt, int_le, filter}
 use Rattle.std.specs.List.{AllByRecursion}
 use Rattle.std.proofs.lemmas.Int.{ints}
-use Rattle.slack_rows.specs.Slack.{Slack, Free, Ticks, Way, NoNumber, Told, is_broken, is_fewer, is_less, least_from}
+use Rattle.slack_rows.specs.Slack.{Slack, Free, Ticks, Way, NoNumber, Finding, is_broken, is_fewer, is_less, least_from}
 use Rattle.slack_rows.specs.Limit.{same_slack}
 
 -- ---- by number
@@ -133,11 +133,11 @@ contrary b is not_so = absurd (cc)
 
 -- ---- the least
 
-module _ {A : Type 0} (at : A → Told) where
-  least_of : Told → List A → Slack
+module _ {A : Type 0} (at : A → Finding) where
+  least_of : Finding → List A → Slack
   least_of best xs = (least_from best (map at xs)).slack
 
-  pub first_not_less : (best : Told) (xs : List A) → is_less best.slack (least_from best (map at xs)).slack ≡ false
+  pub first_not_less : (best : Finding) (xs : List A) → is_less best.slack (least_from best (map at xs)).slack ≡ false
   first_not_less best [] = less_not best.slack
   first_not_less best (x ∷ xs) =
       by (is_less (at x).slack best.slack) refl (first_not_less (at x) xs) (first_not_less best xs)
@@ -158,13 +158,13 @@ module _ {A : Type 0} (at : A → Told) where
       by false less one other = other
 
   -- none of them is less than the least
-  pub none_less : (best : Told) (xs : List A) → AllByRecursion (λ x. is_less (at x).slack (least_from best (map at xs)).slack ≡ false) xs
+  pub none_less : (best : Finding) (xs : List A) → AllByRecursion (λ x. is_less (at x).slack (least_from best (map at xs)).slack ≡ false) xs
   none_less best [] = tt
   none_less best (x ∷ xs) =
       by (is_less (at x).slack best.slack) refl (none_less (at x) xs) (none_less best xs)
     where
-      Least : Told → Slack
-      Least told = (least_from told (map at xs)).slack
+      Least : Finding → Slack
+      Least finding = (least_from finding (map at xs)).slack
 
       head : is_less (at x).slack best.slack ≡ false → (b : Bool) → is_less (at x).slack (Least best) ≡ b → b ≡ false
       head more false is = refl

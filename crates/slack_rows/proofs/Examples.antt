@@ -5,7 +5,7 @@ use Rattle.std.proofs.Common.{refl}
 use Rattle.critical_paths.specs.Event.{Events}
 use Rattle.critical_paths.specs.Region.{all_events, regions}
 use Rattle.slack_rows.specs.declared.window.Extent.{Extent}
-use Rattle.slack_rows.specs.Slack.{Slack, Free, Ticks, Way, NoNumber, Launches, Watch, is_less, no_launches, told_before, told_after}
+use Rattle.slack_rows.specs.Slack.{Slack, Free, Ticks, Way, NoNumber, Launches, Watch, is_less, no_launches, finding_before, finding_after}
 use Rattle.slack_rows.specs.Window.{Side, Late, Early, Either, about, extent_of}
 
 -- an event in each slot with an x
@@ -33,10 +33,10 @@ watch clock data_in limits =
     record { changes = marked data_in; windows = map (about 16 limits) (regions 16 (marked clock)); never = all_events 16 (marked clock) }
 
 abbrev before : Launches → String → String → Extent → Slack
-before launches clock data_in limits = (told_before 16 launches (watch clock data_in limits)).slack
+before launches clock data_in limits = (finding_before 16 launches (watch clock data_in limits)).slack
 
 abbrev after : Launches → String → String → Extent → Slack
-after launches clock data_in limits = (told_after 16 launches (watch clock data_in limits)).slack
+after launches clock data_in limits = (finding_after 16 launches (watch clock data_in limits)).slack
 
 -- The data is quiet from 3 to 7. It changes at 2 at last and at 8 at first, and the window of setup 1 and hold 1 is 4 to 5.
 quiet_before : before no_launches "....x..........." "xxx.....xxxxxxxx" (extent_of 1 1) ≡ Ticks (pos 1)

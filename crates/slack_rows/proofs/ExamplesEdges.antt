@@ -16,10 +16,10 @@ use Rattle.critical_paths.specs.Cause.{made1, made2, made3, made4}
 use Rattle.critical_paths.specs.Walk.{path_of_stop}
 use Rattle.critical_paths.specs.Arrival.{Arrival, arrivals}
 use Rattle.critical_paths.proofs.Circuits.{checker, circuit, clock, input, pin, wave}
-use Rattle.slack_rows.specs.Slack.{Ticks, no_launches, told_after, told_before}
+use Rattle.slack_rows.specs.Slack.{Ticks, no_launches, finding_after, finding_before}
 use Rattle.slack_rows.specs.declared.parameter.Word.TheVariants.{Setup, Hold}
 use Rattle.slack_rows.specs.declared.parameter.Subject.TheVariants.{Instance as OfInstance}
-use Rattle.slack_rows.specs.Limit.{told_in}
+use Rattle.slack_rows.specs.Limit.{finding_in}
 use Rattle.slack_rows.specs.Pulse.{may_change_again}
 use Rattle.slack_rows.specs.Watch.{span_watch, spans}
 use Rattle.slack_rows.specs.Window.{extent_of}
@@ -39,12 +39,12 @@ unfolding earlier back
 one_span = refl
 
 -- the input is quiet from 1 to 8
-span_before : (told_before 16 no_launches (span_watch 16 (extent_of 1 1) (fold values (wave "00RR11FF00000000")) (fold values (wave "CSSSSSSSSCCCCCCC")))).slack
+span_before : (finding_before 16 no_launches (span_watch 16 (extent_of 1 1) (fold values (wave "00RR11FF00000000")) (fold values (wave "CSSSSSSSSCCCCCCC")))).slack
     ≡ Ticks (pos 1)
 unfolding earlier back
 span_before = refl
 
-span_after : (told_after 16 no_launches (span_watch 16 (extent_of 1 1) (fold values (wave "00RR11FF00000000")) (fold values (wave "CSSSSSSSSCCCCCCC")))).slack
+span_after : (finding_after 16 no_launches (span_watch 16 (extent_of 1 1) (fold values (wave "00RR11FF00000000")) (fold values (wave "CSSSSSSSSCCCCCCC")))).slack
     ≡ Ticks (pos 0)
 unfolding earlier back
 span_after = refl
@@ -57,12 +57,12 @@ windowless = circuit (input (clock 4 6 (0, 0)) ∷ input (Stable []) ∷ []) (ch
 abbrev quiet_about : Waves
 quiet_about = waves_of (wave "0000R1F000000000" ∷ wave "CCCSSSSSCCCCCCCC" ∷ [])
 
-quiet_up_to : (told_in windowless quiet_about (OfInstance 0) Setup).slack ≡ Ticks (pos 2)
-unfolding told_in path_of_stop arrivals back earlier moved normal hazard made1 made2 made3 made4
+quiet_up_to : (finding_in windowless quiet_about (OfInstance 0) Setup).slack ≡ Ticks (pos 2)
+unfolding finding_in path_of_stop arrivals back earlier moved normal hazard made1 made2 made3 made4
 quiet_up_to = refl
 
-quiet_from : (told_in windowless quiet_about (OfInstance 0) Hold).slack ≡ Ticks (pos 3)
-unfolding told_in path_of_stop arrivals back earlier moved normal hazard made1 made2 made3 made4
+quiet_from : (finding_in windowless quiet_about (OfInstance 0) Hold).slack ≡ Ticks (pos 3)
+unfolding finding_in path_of_stop arrivals back earlier moved normal hazard made1 made2 made3 made4
 quiet_from = refl
 
 -- ---- a way of 16 ticks from the edge at 4, by edges at 0 and 8

@@ -19,7 +19,7 @@ use Rattle.critical_paths.specs.Walk.{path_of_stop}
 use Rattle.critical_paths.specs.Arrival.{arrivals}
 use Rattle.critical_paths.proofs.Circuits.{bounds, checker, circuit, clock, driven, element, input, late_wave, marked_pin, of_two_delays, pin, wave}
 use Rattle.slack_rows.specs.Launched.{opening}
-use Rattle.slack_rows.specs.Limit.{Case, least_told, told_in, worst}
+use Rattle.slack_rows.specs.Limit.{Case, least_finding, finding_in, worst}
 use Rattle.slack_rows.specs.Pulse.{latest_begin, left_at, left_if, left_of, width_of}
 use Rattle.slack_rows.specs.Rows.{first_with, free_count}
 use Rattle.slack_rows.specs.Slack.{Ticks, Way, NoNumber, is_above}
@@ -112,13 +112,13 @@ spanned_waves =
     waves_of (wave "R1111111F0000000" ∷ wave "CCCCCCCCCCCCCCCC" ∷ late_wave "SCSSSSSSSSSSSSSS" 1 ∷ wave "CCCCCCCCCCCCCCCC" ∷ [])
 
 -- 20 against 16 - 1, the next rise
-spanned_setup : (told_in spanned spanned_waves (OfInstance 2) Setup).slack ≡ Way (negsuc 4)
-unfolding told_in path_of_stop arrivals back earlier moved normal hazard made1 made2 made3 made4
+spanned_setup : (finding_in spanned spanned_waves (OfInstance 2) Setup).slack ≡ Way (negsuc 4)
+unfolding finding_in path_of_stop arrivals back earlier moved normal hazard made1 made2 made3 made4
 spanned_setup = refl
 
 -- 3 against 8 - 16 + 1 + 1, the last fall before the launch
-spanned_hold : (told_in spanned spanned_waves (OfInstance 2) Hold).slack ≡ Way (pos 9)
-unfolding told_in path_of_stop arrivals back earlier moved normal hazard made1 made2 made3 made4
+spanned_hold : (finding_in spanned spanned_waves (OfInstance 2) Hold).slack ≡ Way (pos 9)
+unfolding finding_in path_of_stop arrivals back earlier moved normal hazard made1 made2 made3 made4
 spanned_hold = refl
 
 -- ---- a driven clock: it is to rise from 3 to 5 and to fall from 5 to 7, and falls until 7
@@ -133,13 +133,13 @@ abbrev clocked_waves : Waves
 clocked_waves = waves_of (wave "0000R11F00000000" ∷ wave "0000R11F00000000" ∷ [])
 
 -- by the fall: 8 - 1 - 7
-clock_from : (told_in clocked clocked_waves (OfNet 1) StableFrom).slack ≡ Ticks (pos 0)
-unfolding told_in path_of_stop arrivals back earlier moved normal hazard made1 made2 made3 made4
+clock_from : (finding_in clocked clocked_waves (OfNet 1) StableFrom).slack ≡ Ticks (pos 0)
+unfolding finding_in path_of_stop arrivals back earlier moved normal hazard made1 made2 made3 made4
 clock_from = refl
 
 -- by the rise: 20 - 18 - 1
-clock_to : (told_in clocked clocked_waves (OfNet 1) StableTo).slack ≡ Ticks (pos 1)
-unfolding told_in path_of_stop arrivals back earlier moved normal hazard made1 made2 made3 made4
+clock_to : (finding_in clocked clocked_waves (OfNet 1) StableTo).slack ≡ Ticks (pos 1)
+unfolding finding_in path_of_stop arrivals back earlier moved normal hazard made1 made2 made3 made4
 clock_to = refl
 
 -- ---- three cases: the data changes at 1 last in the first, and at 2 in the others
@@ -153,16 +153,16 @@ sooner = record { number = 1; waves = waves_of (wave "0000R1F000000000" ∷ wave
 abbrev later : ℕ → Case
 later number = record { number = number; waves = waves_of (wave "0000R1F000000000" ∷ wave "CCCSSSSSCCCCCCCC" ∷ []) }
 
-least_of_three : (least_told plain (sooner ∷ later 2 ∷ later 3 ∷ []) (OfInstance 0) Setup).slack ≡ Ticks (pos 1)
-unfolding told_in path_of_stop arrivals back earlier moved normal hazard made1 made2 made3 made4
+least_of_three : (least_finding plain (sooner ∷ later 2 ∷ later 3 ∷ []) (OfInstance 0) Setup).slack ≡ Ticks (pos 1)
+unfolding finding_in path_of_stop arrivals back earlier moved normal hazard made1 made2 made3 made4
 least_of_three = refl
 
 all_that_have_it : (worst plain (sooner ∷ later 2 ∷ later 3 ∷ []) (OfInstance 0) Setup).cases ≡ 2 ∷ 3 ∷ []
-unfolding told_in path_of_stop arrivals back earlier moved normal hazard made1 made2 made3 made4
+unfolding finding_in path_of_stop arrivals back earlier moved normal hazard made1 made2 made3 made4
 all_that_have_it = refl
 
 first_that_has_it : first_with plain (sooner ∷ later 2 ∷ later 3 ∷ []) (OfInstance 0) Setup ≡ 1
-unfolding told_in path_of_stop arrivals back earlier moved normal hazard made1 made2 made3 made4
+unfolding finding_in path_of_stop arrivals back earlier moved normal hazard made1 made2 made3 made4
 first_that_has_it = refl
 
 -- ---- what nothing can break
@@ -173,12 +173,12 @@ gate =
 
 -- EN never changes: neither side of the mark can be broken
 quiet_beside : free_count gate (record { number = 1; waves = waves_of (wave "0000R1F000000000" ∷ wave "SSSSSSSSSSSSSSSS" ∷ wave "00000R1F00000000" ∷ []) } ∷ []) ≡ 2
-unfolding told_in path_of_stop arrivals back earlier moved normal hazard made1 made2 made3 made4
+unfolding finding_in path_of_stop arrivals back earlier moved normal hazard made1 made2 made3 made4
 quiet_beside = refl
 
 -- a mark that is never at rest is broken, and its sides are no limits of their own
 never_at_rest : free_count gate (record { number = 1; waves = waves_of (wave "CCCCCCCCCCCCCCCC" ∷ wave "CCCSSSSSCCCCCCCC" ∷ wave "CCCCCCCCCCCCCCCC" ∷ []) } ∷ []) ≡ 0
-unfolding told_in path_of_stop arrivals back earlier moved normal hazard made1 made2 made3 made4
+unfolding finding_in path_of_stop arrivals back earlier moved normal hazard made1 made2 made3 made4
 never_at_rest = refl
 
 -- A driven clock that stays at 1: its assertion does not permit the level, and so its sides are no
@@ -192,12 +192,12 @@ of_net net = record {
 }
 
 stays_high : free_count (of_net asserted) (record { number = 1; waves = waves_of (wave "0000R11F00000000" ∷ wave "1111111111111111" ∷ []) } ∷ []) ≡ 0
-unfolding told_in path_of_stop arrivals back earlier moved normal hazard made1 made2 made3 made4
+unfolding finding_in path_of_stop arrivals back earlier moved normal hazard made1 made2 made3 made4
 stays_high = refl
 
 abbrev settled : Net
 settled = record { name = []; bit = 0; spec = Stable (record { lo = 4; hi = 12 } ∷ []); wire = bounds 0 0; driver = Some 0 }
 
 stays : free_count (of_net settled) (record { number = 1; waves = waves_of (wave "SSSSSSSSSSSSSSSS" ∷ wave "SSSSSSSSSSSSSSSS" ∷ []) } ∷ []) ≡ 2
-unfolding told_in path_of_stop arrivals back earlier moved normal hazard made1 made2 made3 made4
+unfolding finding_in path_of_stop arrivals back earlier moved normal hazard made1 made2 made3 made4
 stays = refl

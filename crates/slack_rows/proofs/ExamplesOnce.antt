@@ -6,7 +6,7 @@ use Rattle.critical_paths.specs.Region.{Region}
 use Rattle.slack_rows.specs.Launched.{side_by}
 use Rattle.slack_rows.specs.Limit.{is_by_arrivals}
 use Rattle.slack_rows.specs.Rows.{are_one_region, reported_once}
-use Rattle.slack_rows.specs.Slack.{Launches, Nowhere, At, Arrived, Slack, Free, Ticks, Way, NoNumber, Told, Watch, told_after, told_before}
+use Rattle.slack_rows.specs.Slack.{Launches, Nowhere, At, Arrived, Slack, Free, Ticks, Way, NoNumber, Finding, Watch, finding_after, finding_before}
 use Rattle.slack_rows.specs.Window.{Window, Late, Early, Either, about, extent_of}
 use Rattle.slack_rows.proofs.Examples.{marked}
 
@@ -57,31 +57,31 @@ of_arrivals = refl
 
 -- ---- told once
 
-abbrev told : Slack → ℕ → Told
-told slack pin = record { slack = slack; place = At (at_edge 4) (ticks 50 60); pin = pin; direction = Change }
+abbrev finding : Slack → ℕ → Finding
+finding slack pin = record { slack = slack; place = At (at_edge 4) (ticks 50 60); pin = pin; direction = Change }
 
-both_broken : reported_once 16 true (told (Ticks (negsuc 0)) 1) (told (Ticks (negsuc 9)) 1) ≡ true
+both_broken : reported_once 16 true (finding (Ticks (negsuc 0)) 1) (finding (Ticks (negsuc 9)) 1) ≡ true
 both_broken = refl
 
-first_met : reported_once 16 true (told (Ticks (pos 0)) 1) (told (Ticks (negsuc 9)) 1) ≡ false
+first_met : reported_once 16 true (finding (Ticks (pos 0)) 1) (finding (Ticks (negsuc 9)) 1) ≡ false
 first_met = refl
 
-second_met : reported_once 16 true (told (Ticks (negsuc 0)) 1) (told (Ticks (pos 0)) 1) ≡ false
+second_met : reported_once 16 true (finding (Ticks (negsuc 0)) 1) (finding (Ticks (pos 0)) 1) ≡ false
 second_met = refl
 
-of_other_cases : reported_once 16 false (told (Ticks (negsuc 0)) 1) (told (Ticks (negsuc 9)) 1) ≡ false
+of_other_cases : reported_once 16 false (finding (Ticks (negsuc 0)) 1) (finding (Ticks (negsuc 9)) 1) ≡ false
 of_other_cases = refl
 
-of_other_pins : reported_once 16 true (told (Ticks (negsuc 0)) 1) (told (Ticks (negsuc 9)) 2) ≡ false
+of_other_pins : reported_once 16 true (finding (Ticks (negsuc 0)) 1) (finding (Ticks (negsuc 9)) 2) ≡ false
 of_other_pins = refl
 
-abbrev rising : Told
+abbrev rising : Finding
 rising = record { slack = Ticks (negsuc 0); place = At (at_edge 4) (ticks 50 60); pin = 1; direction = Rise }
 
-of_other_steps : reported_once 16 true rising (told (Ticks (negsuc 9)) 1) ≡ false
+of_other_steps : reported_once 16 true rising (finding (Ticks (negsuc 9)) 1) ≡ false
 of_other_steps = refl
 
-abbrev without : Slack → Told
+abbrev without : Slack → Finding
 without slack = record { slack = slack; place = Nowhere; pin = 1; direction = Change }
 
 -- whatever the cases
@@ -126,16 +126,16 @@ abbrev in_it : Watch
 in_it = record { changes = marked "...x............"; windows = at_edge 4 ∷ []; never = false }
 
 -- The last change before it is that of the period before: 10 ticks before the window.
-before_about : (told_before 16 by_itself about_it).slack ≡ Ticks (pos 12)
+before_about : (finding_before 16 by_itself about_it).slack ≡ Ticks (pos 12)
 before_about = refl
 
-after_about : (told_after 16 by_itself about_it).slack ≡ Ticks (negsuc 4)
+after_about : (finding_after 16 by_itself about_it).slack ≡ Ticks (negsuc 4)
 after_about = refl
 
-before_in : (told_before 16 by_itself in_it).slack ≡ Ticks (pos 15)
+before_in : (finding_before 16 by_itself in_it).slack ≡ Ticks (pos 15)
 before_in = refl
 
-after_in : (told_after 16 by_itself in_it).slack ≡ Ticks (negsuc 2)
+after_in : (finding_after 16 by_itself in_it).slack ≡ Ticks (negsuc 2)
 after_in = refl
 
 -- Data in the last two ticks of the window ends in it, and is of the side of its launch; what begins
@@ -149,13 +149,13 @@ from_before = record { changes = marked "..xx............"; windows = at_edge 4 
 abbrev before_it : Launches
 before_it = record { side = λ w r. Late; two = λ w r. None; last_way = None; first_way = None }
 
-late_to_its_end : (told_before 16 before_it to_its_end).slack ≡ Ticks (negsuc 2)
+late_to_its_end : (finding_before 16 before_it to_its_end).slack ≡ Ticks (negsuc 2)
 late_to_its_end = refl
 
-early_to_its_end : (told_before 16 by_itself to_its_end).slack ≡ Ticks (pos 13)
+early_to_its_end : (finding_before 16 by_itself to_its_end).slack ≡ Ticks (pos 13)
 early_to_its_end = refl
 
-late_from_before : (told_before 16 by_itself from_before).slack ≡ Ticks (negsuc 0)
+late_from_before : (finding_before 16 by_itself from_before).slack ≡ Ticks (negsuc 0)
 late_from_before = refl
 
 -- ---- two launches at one edge
@@ -164,23 +164,23 @@ abbrev two_at : ℕ → ℕ → Launches
 two_at last first = record { side = λ w r. Either; two = λ w r. Some (last, first); last_way = None; first_way = None }
 
 -- Ticks count from 48 ticks before: the window is 51 to 53. One arrives in it and the other does not.
-last_inside : (told_before 16 (two_at 51 54) about_it).slack ≡ Ticks (negsuc 0)
+last_inside : (finding_before 16 (two_at 51 54) about_it).slack ≡ Ticks (negsuc 0)
 last_inside = refl
 
-beside_last : (told_after 16 (two_at 51 54) about_it).slack ≡ Ticks (pos 0)
+beside_last : (finding_after 16 (two_at 51 54) about_it).slack ≡ Ticks (pos 0)
 beside_last = refl
 
-first_inside : (told_after 16 (two_at 50 53) about_it).slack ≡ Ticks (negsuc 0)
+first_inside : (finding_after 16 (two_at 50 53) about_it).slack ≡ Ticks (negsuc 0)
 first_inside = refl
 
-beside_first : (told_before 16 (two_at 50 53) about_it).slack ≡ Ticks (pos 0)
+beside_first : (finding_before 16 (two_at 50 53) about_it).slack ≡ Ticks (pos 0)
 beside_first = refl
 
 -- where neither does, the region counts on both sides
-neither_inside : (told_before 16 (two_at 50 54) about_it).slack ≡ Ticks (negsuc 3)
+neither_inside : (finding_before 16 (two_at 50 54) about_it).slack ≡ Ticks (negsuc 3)
 neither_inside = refl
 
-neither_after : (told_after 16 (two_at 50 54) about_it).slack ≡ Ticks (negsuc 4)
+neither_after : (finding_after 16 (two_at 50 54) about_it).slack ≡ Ticks (negsuc 4)
 neither_after = refl
 
 -- ---- what goes by arrivals

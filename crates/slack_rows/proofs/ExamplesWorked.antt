@@ -18,7 +18,7 @@ use Rattle.critical_paths.proofs.Circuits.{bounds, checker, circuit, clock, driv
 use Rattle.slack_rows.specs.Slack.{Free, Ticks, Way, NoNumber}
 use Rattle.slack_rows.specs.declared.parameter.Word.TheVariants.{Setup, Hold, High, Low, Gate, Before as GateBefore, After as GateAfter, Assert, From as StableFrom, To as StableTo}
 use Rattle.slack_rows.specs.declared.parameter.Subject.TheVariants.{Instance as OfInstance, Net as OfNet}
-use Rattle.slack_rows.specs.Limit.{told_in}
+use Rattle.slack_rows.specs.Limit.{finding_in}
 
 -- ---- an input that is stable about the rise at 4
 
@@ -28,12 +28,12 @@ plain = circuit (input (clock 4 6 (0, 0)) ∷ input (Stable []) ∷ []) (checker
 abbrev plain_waves : Waves
 plain_waves = waves_of (wave "0000R1F000000000" ∷ wave "CCCSSSSSCCCCCCCC" ∷ [])
 
-plain_setup : (told_in plain plain_waves (OfInstance 0) Setup).slack ≡ Ticks (pos 1)
-unfolding told_in path_of_stop arrivals back earlier moved normal hazard made1 made2 made3 made4
+plain_setup : (finding_in plain plain_waves (OfInstance 0) Setup).slack ≡ Ticks (pos 1)
+unfolding finding_in path_of_stop arrivals back earlier moved normal hazard made1 made2 made3 made4
 plain_setup = refl
 
-plain_hold : (told_in plain plain_waves (OfInstance 0) Hold).slack ≡ Ticks (pos 2)
-unfolding told_in path_of_stop arrivals back earlier moved normal hazard made1 made2 made3 made4
+plain_hold : (finding_in plain plain_waves (OfInstance 0) Hold).slack ≡ Ticks (pos 2)
+unfolding finding_in path_of_stop arrivals back earlier moved normal hazard made1 made2 made3 made4
 plain_hold = refl
 
 -- ---- a register and a change function that is too slow: 0 + 2 + 14 against 16 - 1, and 0 + 1 + 2 against 0 + 1 + 1
@@ -47,12 +47,12 @@ abbrev slow_waves : Waves
 slow_waves =
     waves_of (wave "R1111111F0000000" ∷ wave "CCCCCCCCCCCCCCCC" ∷ late_wave "SCSSSSSSSSSSSSSS" 1 ∷ wave "CSSCCCCCCCCCCCCC" ∷ [])
 
-slow_setup : (told_in (slow 14) slow_waves (OfInstance 2) Setup).slack ≡ Ticks (negsuc 0)
-unfolding told_in path_of_stop arrivals back earlier moved normal hazard made1 made2 made3 made4
+slow_setup : (finding_in (slow 14) slow_waves (OfInstance 2) Setup).slack ≡ Ticks (negsuc 0)
+unfolding finding_in path_of_stop arrivals back earlier moved normal hazard made1 made2 made3 made4
 slow_setup = refl
 
-slow_hold : (told_in (slow 14) slow_waves (OfInstance 2) Hold).slack ≡ Ticks (pos 1)
-unfolding told_in path_of_stop arrivals back earlier moved normal hazard made1 made2 made3 made4
+slow_hold : (finding_in (slow 14) slow_waves (OfInstance 2) Hold).slack ≡ Ticks (pos 1)
+unfolding finding_in path_of_stop arrivals back earlier moved normal hazard made1 made2 made3 made4
 slow_hold = refl
 
 -- ---- it may change at any tick: 0 + 2 + 18 against 16 - 1, by its way alone
@@ -61,12 +61,12 @@ abbrev never_waves : Waves
 never_waves =
     waves_of (wave "R1111111F0000000" ∷ wave "CCCCCCCCCCCCCCCC" ∷ late_wave "SCSSSSSSSSSSSSSS" 1 ∷ wave "CCCCCCCCCCCCCCCC" ∷ [])
 
-never_setup : (told_in (slow 18) never_waves (OfInstance 2) Setup).slack ≡ Way (negsuc 4)
-unfolding told_in path_of_stop arrivals back earlier moved normal hazard made1 made2 made3 made4
+never_setup : (finding_in (slow 18) never_waves (OfInstance 2) Setup).slack ≡ Way (negsuc 4)
+unfolding finding_in path_of_stop arrivals back earlier moved normal hazard made1 made2 made3 made4
 never_setup = refl
 
-never_hold : (told_in (slow 18) never_waves (OfInstance 2) Hold).slack ≡ Way (pos 1)
-unfolding told_in path_of_stop arrivals back earlier moved normal hazard made1 made2 made3 made4
+never_hold : (finding_in (slow 18) never_waves (OfInstance 2) Hold).slack ≡ Way (pos 1)
+unfolding finding_in path_of_stop arrivals back earlier moved normal hazard made1 made2 made3 made4
 never_hold = refl
 
 -- ---- a tree on both sides: 2 + 1 against 4 + 1 + 1, and 18 - 1 against 4 + 2
@@ -80,12 +80,12 @@ abbrev tree_waves : Waves
 tree_waves =
     waves_of (wave "R1111111F0000000" ∷ late_wave "00R1111111F00000" 2 ∷ wave "CCCCCCCCCCCCCCCC" ∷ late_wave "SSSCSSSSSSSSSSSS" 3 ∷ [])
 
-tree_hold : (told_in tree tree_waves (OfInstance 2) Hold).slack ≡ Ticks (negsuc 2)
-unfolding told_in path_of_stop arrivals back earlier moved normal hazard made1 made2 made3 made4
+tree_hold : (finding_in tree tree_waves (OfInstance 2) Hold).slack ≡ Ticks (negsuc 2)
+unfolding finding_in path_of_stop arrivals back earlier moved normal hazard made1 made2 made3 made4
 tree_hold = refl
 
-tree_setup : (told_in tree tree_waves (OfInstance 2) Setup).slack ≡ Ticks (pos 11)
-unfolding told_in path_of_stop arrivals back earlier moved normal hazard made1 made2 made3 made4
+tree_setup : (finding_in tree tree_waves (OfInstance 2) Setup).slack ≡ Ticks (pos 11)
+unfolding finding_in path_of_stop arrivals back earlier moved normal hazard made1 made2 made3 made4
 tree_setup = refl
 
 -- ---- a mark: EN is stable from 2 to 8, and CK lets it through from 4 to 6
@@ -97,21 +97,21 @@ gate =
 abbrev gate_waves : Waves
 gate_waves = waves_of (wave "0000R1F000000000" ∷ wave "CCCSSSSSCCCCCCCC" ∷ wave "00000R1F00000000" ∷ [])
 
-gate_before : (told_in gate gate_waves (OfInstance 0) GateBefore).slack ≡ Ticks (pos 1)
-unfolding told_in path_of_stop arrivals back earlier moved normal hazard made1 made2 made3 made4
+gate_before : (finding_in gate gate_waves (OfInstance 0) GateBefore).slack ≡ Ticks (pos 1)
+unfolding finding_in path_of_stop arrivals back earlier moved normal hazard made1 made2 made3 made4
 gate_before = refl
 
-gate_after : (told_in gate gate_waves (OfInstance 0) GateAfter).slack ≡ Ticks (pos 1)
-unfolding told_in path_of_stop arrivals back earlier moved normal hazard made1 made2 made3 made4
+gate_after : (finding_in gate gate_waves (OfInstance 0) GateAfter).slack ≡ Ticks (pos 1)
+unfolding finding_in path_of_stop arrivals back earlier moved normal hazard made1 made2 made3 made4
 gate_after = refl
 
-gate_rests : (told_in gate gate_waves (OfInstance 0) Gate).slack ≡ Free
-unfolding told_in path_of_stop arrivals back earlier moved normal hazard made1 made2 made3 made4
+gate_rests : (finding_in gate gate_waves (OfInstance 0) Gate).slack ≡ Free
+unfolding finding_in path_of_stop arrivals back earlier moved normal hazard made1 made2 made3 made4
 gate_rests = refl
 
 -- it is 1 in every slot or goes on changing
-gate_never_rests : (told_in gate (waves_of (wave "CCCCCCCCCCCCCCCC" ∷ wave "CCCSSSSSCCCCCCCC" ∷ wave "CCCCCCCCCCCCCCCC" ∷ [])) (OfInstance 0) Gate).slack ≡ NoNumber
-unfolding told_in path_of_stop arrivals back earlier moved normal hazard made1 made2 made3 made4
+gate_never_rests : (finding_in gate (waves_of (wave "CCCCCCCCCCCCCCCC" ∷ wave "CCCSSSSSCCCCCCCC" ∷ wave "CCCCCCCCCCCCCCCC" ∷ [])) (OfInstance 0) Gate).slack ≡ NoNumber
+unfolding finding_in path_of_stop arrivals back earlier moved normal hazard made1 made2 made3 made4
 gate_never_rests = refl
 
 -- ---- an assertion: A changes from 14 to 2, and so X from 15 to 4, which is to be stable from 4 to 12
@@ -125,16 +125,16 @@ assertion = circuit (input (Stable []) ∷ held ∷ []) (element Buf (bounds 1 2
 abbrev assertion_waves : Waves
 assertion_waves = waves_of (wave "CCCSSSSSSSSSSSCC" ∷ late_wave "CCCCSSSSSSSSSSSC" 1 ∷ [])
 
-stable_from : (told_in assertion assertion_waves (OfNet 1) StableFrom).slack ≡ Ticks (pos 0)
-unfolding told_in path_of_stop arrivals back earlier moved normal hazard made1 made2 made3 made4
+stable_from : (finding_in assertion assertion_waves (OfNet 1) StableFrom).slack ≡ Ticks (pos 0)
+unfolding finding_in path_of_stop arrivals back earlier moved normal hazard made1 made2 made3 made4
 stable_from = refl
 
-stable_to : (told_in assertion assertion_waves (OfNet 1) StableTo).slack ≡ Ticks (pos 3)
-unfolding told_in path_of_stop arrivals back earlier moved normal hazard made1 made2 made3 made4
+stable_to : (finding_in assertion assertion_waves (OfNet 1) StableTo).slack ≡ Ticks (pos 3)
+unfolding finding_in path_of_stop arrivals back earlier moved normal hazard made1 made2 made3 made4
 stable_to = refl
 
-no_level : (told_in assertion assertion_waves (OfNet 1) Assert).slack ≡ Free
-unfolding told_in path_of_stop arrivals back earlier moved normal hazard made1 made2 made3 made4
+no_level : (finding_in assertion assertion_waves (OfNet 1) Assert).slack ≡ Free
+unfolding finding_in path_of_stop arrivals back earlier moved normal hazard made1 made2 made3 made4
 no_level = refl
 
 -- ---- a latch: its input goes on past the fall of its enable at 6, so Q changes until 8, against 10 - 1
@@ -144,9 +144,9 @@ latched =
     circuit (input (clock 0 6 (0, 0)) ∷ input (Stable []) ∷ driven 0 ∷ input (clock 10 14 (0, 0)) ∷ [])
     (element Latch (bounds 1 2) (pin 0 ∷ pin 1 ∷ []) ∷ checker SetupHold (1, 0) (pin 3 ∷ pin 2 ∷ []) ∷ [])
 
-latch_setup : (told_in latched (waves_of (wave "R11111F000000000" ∷ wave "SSSCCCCCCCCCCSSS" ∷ late_wave "SCSSCCCCSSSSSSSS" 1
+latch_setup : (finding_in latched (waves_of (wave "R11111F000000000" ∷ wave "SSSCCCCCCCCCCSSS" ∷ late_wave "SCSSCCCCSSSSSSSS" 1
     ∷ wave "0000000000R111F0" ∷ [])) (OfInstance 1) Setup).slack ≡ Ticks (pos 1)
-unfolding told_in path_of_stop arrivals back earlier moved normal hazard made1 made2 made3 made4
+unfolding finding_in path_of_stop arrivals back earlier moved normal hazard made1 made2 made3 made4
 latch_setup = refl
 
 -- ---- a loop has no number
@@ -159,12 +159,12 @@ looped =
 abbrev loop_waves : Waves
 loop_waves = waves_of (wave "0000R1F000000000" ∷ wave "UUUUUUUUUUUUUUUU" ∷ [])
 
-loop_setup : (told_in looped loop_waves (OfInstance 1) Setup).slack ≡ NoNumber
-unfolding told_in path_of_stop arrivals back earlier moved normal hazard made1 made2 made3 made4
+loop_setup : (finding_in looped loop_waves (OfInstance 1) Setup).slack ≡ NoNumber
+unfolding finding_in path_of_stop arrivals back earlier moved normal hazard made1 made2 made3 made4
 loop_setup = refl
 
-loop_hold : (told_in looped loop_waves (OfInstance 1) Hold).slack ≡ NoNumber
-unfolding told_in path_of_stop arrivals back earlier moved normal hazard made1 made2 made3 made4
+loop_hold : (finding_in looped loop_waves (OfInstance 1) Hold).slack ≡ NoNumber
+unfolding finding_in path_of_stop arrivals back earlier moved normal hazard made1 made2 made3 made4
 loop_hold = refl
 
 -- ---- a clock by its complement: 4 + 4 against 7 - 1, launched by the rise at 4 before the fall at 6
@@ -179,13 +179,13 @@ abbrev turned_waves : Waves
 turned_waves =
     waves_of (wave "0000R1F000000000" ∷ wave "CCCCCCCCCCCCCCCC" ∷ late_wave "SSSSSCSSSSSSSSSS" 3 ∷ wave "11111F0R11111111" ∷ [])
 
-turned_setup : (told_in turned turned_waves (OfInstance 2) Setup).slack ≡ Ticks (negsuc 1)
-unfolding told_in path_of_stop arrivals back earlier moved normal hazard made1 made2 made3 made4
+turned_setup : (finding_in turned turned_waves (OfInstance 2) Setup).slack ≡ Ticks (negsuc 1)
+unfolding finding_in path_of_stop arrivals back earlier moved normal hazard made1 made2 made3 made4
 turned_setup = refl
 
 -- late, and so not early: the next change after is that of the next period
-turned_hold : (told_in turned turned_waves (OfInstance 2) Hold).slack ≡ Ticks (pos 13)
-unfolding told_in path_of_stop arrivals back earlier moved normal hazard made1 made2 made3 made4
+turned_hold : (finding_in turned turned_waves (OfInstance 2) Hold).slack ≡ Ticks (pos 13)
+unfolding finding_in path_of_stop arrivals back earlier moved normal hazard made1 made2 made3 made4
 turned_hold = refl
 
 -- ---- one offset of up to 4 ticks on both sides: 6 + 1 against 8 + 1 + 0 + 1, and 21 - 1 against 10 + 1
@@ -200,12 +200,12 @@ abbrev offset_waves : Waves
 offset_waves =
     waves_of (late_wave "0000R1F000000000" 4 ∷ wave "SSSSSSSSSSSSSSSS" ∷ late_wave "SSSSSSSCSSSSSSSS" 4 ∷ late_wave "00000R1F00000000" 4 ∷ [])
 
-offset_hold : (told_in offset offset_waves (OfInstance 2) Hold).slack ≡ Ticks (negsuc 2)
-unfolding told_in path_of_stop arrivals back earlier moved normal hazard made1 made2 made3 made4
+offset_hold : (finding_in offset offset_waves (OfInstance 2) Hold).slack ≡ Ticks (negsuc 2)
+unfolding finding_in path_of_stop arrivals back earlier moved normal hazard made1 made2 made3 made4
 offset_hold = refl
 
-offset_setup : (told_in offset offset_waves (OfInstance 2) Setup).slack ≡ Ticks (pos 9)
-unfolding told_in path_of_stop arrivals back earlier moved normal hazard made1 made2 made3 made4
+offset_setup : (finding_in offset offset_waves (OfInstance 2) Setup).slack ≡ Ticks (pos 9)
+unfolding finding_in path_of_stop arrivals back earlier moved normal hazard made1 made2 made3 made4
 offset_setup = refl
 
 -- ---- a pulse of 2 ticks that rises 1 to 4 ticks late and falls 1 tick late: 2 + 1 - 4 is left of it, against 3
@@ -218,13 +218,13 @@ pulse =
 abbrev pulse_waves : Waves
 pulse_waves = waves_of (wave "0000R1F000000000" ∷ wave "00000RRF00000000" ∷ [])
 
-swallowed : (told_in pulse pulse_waves (OfInstance 1) High).slack ≡ Ticks (negsuc 3)
-unfolding told_in path_of_stop arrivals back earlier moved normal hazard made1 made2 made3 made4 meeting
+swallowed : (finding_in pulse pulse_waves (OfInstance 1) High).slack ≡ Ticks (negsuc 3)
+unfolding finding_in path_of_stop arrivals back earlier moved normal hazard made1 made2 made3 made4 meeting
 swallowed = refl
 
 -- nothing that is asked of its low pulses can break
-low_pulse : (told_in pulse pulse_waves (OfInstance 1) Low).slack ≡ Ticks (pos 14)
-unfolding told_in path_of_stop arrivals back earlier moved normal hazard made1 made2 made3 made4 meeting
+low_pulse : (finding_in pulse pulse_waves (OfInstance 1) Low).slack ≡ Ticks (pos 14)
+unfolding finding_in path_of_stop arrivals back earlier moved normal hazard made1 made2 made3 made4 meeting
 low_pulse = refl
 
 -- ---- two ways to one net meet in one region: 1 + 13 + 2 against 16 - 1, and 16 + 0 + 1 against 16 + 0 + 1
@@ -240,10 +240,10 @@ two_ways_waves =
     waves_of (wave "R1111111F0000000" ∷ wave "SSSSSSSSSSSSSSSS" ∷ late_wave "CSSSSSSSSSSSSSSS" 1 ∷ wave "SSSSSSCCCCCCCCCS"
     ∷ wave "CCCCSSSCCCCCCCCC" ∷ [])
 
-two_ways_setup : (told_in two_ways two_ways_waves (OfInstance 3) Setup).slack ≡ Ticks (negsuc 0)
-unfolding told_in path_of_stop arrivals back earlier moved normal hazard made1 made2 made3 made4
+two_ways_setup : (finding_in two_ways two_ways_waves (OfInstance 3) Setup).slack ≡ Ticks (negsuc 0)
+unfolding finding_in path_of_stop arrivals back earlier moved normal hazard made1 made2 made3 made4
 two_ways_setup = refl
 
-two_ways_hold : (told_in two_ways two_ways_waves (OfInstance 3) Hold).slack ≡ Ticks (pos 0)
-unfolding told_in path_of_stop arrivals back earlier moved normal hazard made1 made2 made3 made4
+two_ways_hold : (finding_in two_ways two_ways_waves (OfInstance 3) Hold).slack ≡ Ticks (pos 0)
+unfolding finding_in path_of_stop arrivals back earlier moved normal hazard made1 made2 made3 made4
 two_ways_hold = refl

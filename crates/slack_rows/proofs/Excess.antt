@@ -15,8 +15,8 @@ use Rattle.critical_paths.specs.declared.direction.Direction.TheVariants.{Rise, 
 use Rattle.critical_paths.specs.Event.{Events, events, moves}
 use Rattle.critical_paths.specs.Region.{IsCyclic}
 use Rattle.critical_paths.proofs.Runs.{not_true}
-use Rattle.slack_rows.specs.Slack.{Told, Watch, least, no_launches, told_after, told_before, told_of}
-use Rattle.slack_rows.specs.Limit.{in_windows, steps_outside, told_never, told_outside}
+use Rattle.slack_rows.specs.Slack.{Finding, Watch, least, no_launches, finding_after, finding_before, finding_of}
+use Rattle.slack_rows.specs.Limit.{in_windows, steps_outside, finding_never, finding_outside}
 use Rattle.slack_rows.specs.Laws.{IsBroken, SomeOf}
 use Rattle.slack_rows.proofs.Touching.{IsMet, met_touches, touched_met, watch_about}
 use Rattle.slack_rows.proofs.Parts.{PartsBreak, least_iff, parts_break, some_either, some_first, some_second}
@@ -26,12 +26,12 @@ use Rattle.slack_rows.proofs.Gates.{one_place}
 
 -- ---- lists
 
-map_same : (l : List Told) → map (λ told. told) l ≡ l
+map_same : (l : List Finding) → map (λ finding. finding) l ≡ l
 map_same [] = refl
-map_same (told ∷ l) = ap (λ rest. told ∷ rest) (map_same l)
+map_same (finding ∷ l) = ap (λ rest. finding ∷ rest) (map_same l)
 
-least_list : (l : List Told) → IsBroken (least l) ↔ SomeOf IsBroken l
-least_list l = subst (λ m. IsBroken (least m) ↔ SomeOf IsBroken l) (map_same l) (least_iff (λ told. told) l)
+least_list : (l : List Finding) → IsBroken (least l) ↔ SomeOf IsBroken l
+least_list l = subst (λ m. IsBroken (least m) ↔ SomeOf IsBroken l) (map_same l) (least_iff (λ finding. finding) l)
 
 module _ {A : Type 0} (P : A → Type 0) where
   some_before : (xs ys : List A) → SomeOf P xs → SomeOf P (xs ++ ys)
@@ -204,26 +204,26 @@ module _ (p : ℕ) (long : 2 ≤ p) (found wide : Folds) (found_cyclic : (t : �
       ((parts_break p no_launches (watch d) long (changes_cyclic d) (all_placed p (forbidden d) (extent_of 1 0) (omega arith) (omega (arith, long)))).1 parts)
 
   -- what is told by each direction
-  abbrev never : Direction → Told
-  never d = told_of 0 d (told_never p (watch d))
+  abbrev never : Direction → Finding
+  never d = finding_of 0 d (finding_never p (watch d))
 
-  abbrev before : Direction → Told
-  before d = told_of 0 d (told_before p no_launches (in_windows (watch d)))
+  abbrev before : Direction → Finding
+  before d = finding_of 0 d (finding_before p no_launches (in_windows (watch d)))
 
-  abbrev after : Direction → Told
-  after d = told_of 0 d (told_after p no_launches (in_windows (watch d)))
+  abbrev after : Direction → Finding
+  after d = finding_of 0 d (finding_after p no_launches (in_windows (watch d)))
 
-  abbrev level : Told
-  level = told_outside (steps_outside p found wide) (first_excess p found wide)
+  abbrev level : Finding
+  level = finding_outside (steps_outside p found wide) (first_excess p found wide)
 
   abbrev pub BreakBy : List Direction → Type 0
   BreakBy ds =
       (is_some (first_excess p found wide) ≡ true)
       ↔ (IsBroken (least (map never ds ++ level ∷ [])) ⊎ (IsBroken (least (map before ds)) ⊎ IsBroken (least (map after ds))))
 
-  parts_told : (ds : List Direction) → SomeOf Parts ds →
+  parts_finding : (ds : List Direction) → SomeOf Parts ds →
       IsBroken (least (map never ds ++ level ∷ [])) ⊎ (IsBroken (least (map before ds)) ⊎ IsBroken (least (map after ds)))
-  parts_told ds parts =
+  parts_finding ds parts =
       elim (some_either (λ d. IsBroken (never d)) (λ d. IsBroken (before d) ⊎ IsBroken (after d)) ds parts) [
         | inl some ↦ inl ((least_list (map never ds ++ level ∷ [])).1
             (some_before IsBroken (map never ds) (level ∷ []) (map_some_of IsBroken never ds some)))
@@ -233,19 +233,19 @@ module _ (p : ℕ) (long : 2 ≤ p) (found wide : Folds) (found_cyclic : (t : �
         ])
       ]
 
-  level_broken : (b : Bool) (o : Option ℕ) → is_some o ≡ true → b ≡ false → IsBroken (told_outside b o)
+  level_broken : (b : Bool) (o : Option ℕ) → is_some o ≡ true → b ≡ false → IsBroken (finding_outside b o)
   level_broken true o some is = absurd (cc)
   level_broken false None none is = absurd (cc)
   level_broken false (Some t) some is = refl
 
-  broken_level : (b : Bool) (o : Option ℕ) → IsBroken (told_outside b o) → is_some o ≡ true
+  broken_level : (b : Bool) (o : Option ℕ) → IsBroken (finding_outside b o) → is_some o ≡ true
   broken_level true o none = absurd (cc)
   broken_level false None none = absurd (cc)
   broken_level false (Some t) broken = refl
 
   pub excess_breaks : (ds : List Direction) → ((t : ℕ) → t < p → outside found wide t ≡ true → SomeOf IsMetBy ds) → BreakBy ds
   excess_breaks ds covers = (
-    λ some. told some (steps_outside p found wide) refl,
+    λ some. finding some (steps_outside p found wide) refl,
     λ broken. elim broken [
       | inl assert ↦ elim (some_of_both IsBroken (map never ds) (level ∷ []) ((least_list (map never ds ++ level ∷ [])).0 assert)) [
         | inl some ↦ met_excess (some_turned Parts IsMetBy breaks_met ds
@@ -271,11 +271,11 @@ module _ (p : ℕ) (long : 2 ≤ p) (found wide : Folds) (found_cyclic : (t : �
       met_excess : SomeOf IsMetBy ds → is_some (first_excess p found wide) ≡ true
       met_excess some = exceeded_excess p found wide (met_of ds some)
 
-      told : is_some (first_excess p found wide) ≡ true → (b : Bool) → steps_outside p found wide ≡ b →
+      finding : is_some (first_excess p found wide) ≡ true → (b : Bool) → steps_outside p found wide ≡ b →
           IsBroken (least (map never ds ++ level ∷ [])) ⊎ (IsBroken (least (map before ds)) ⊎ IsBroken (least (map after ds)))
-      told some true is =
+      finding some true is =
           let (t, below, here) = any_within (outside found wide) p 0 p (omega arith) is in
-          parts_told ds (some_turned IsMetBy Parts met_breaks ds (covers t below here))
-      told some false is =
+          parts_finding ds (some_turned IsMetBy Parts met_breaks ds (covers t below here))
+      finding some false is =
           inl ((least_list (map never ds ++ level ∷ [])).1 (some_after IsBroken (map never ds) (level ∷ [])
           (inl (level_broken (steps_outside p found wide) (first_excess p found wide) some is))))

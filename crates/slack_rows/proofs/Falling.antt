@@ -14,7 +14,7 @@ use Rattle.point_check.specs.Window.{Folds}
 use Rattle.critical_paths.specs.declared.region.Region.{Region as Ticked}
 use Rattle.critical_paths.specs.Region.{Region}
 use Rattle.critical_paths.specs.Views.{ticks_of_region}
-use Rattle.slack_rows.specs.Watch.{fall_of, falls_at, follows, span_at, span_by, span_told}
+use Rattle.slack_rows.specs.Watch.{fall_of, falls_at, follows, span_at, span_by, span_finding}
 use Rattle.slack_rows.proofs.Spans.{fall_on}
 
 eq_same : (a b c d : ℕ) → (a ≡ b → c ≡ d) → (c ≡ d → a ≡ b) → (a == b) ≡ (c == d)
@@ -64,11 +64,11 @@ module _ (p : ℕ) (long : 2 ≤ p) (clock : Folds) (cyclic : (t : ℕ) → cloc
       by (Some b) q_is = eq_same (q + b + p) (suc t + h + p) b (h + 1) (λ same. omega (arith, same, q_is)) (λ same. omega (arith, same, q_is))
 
   pub span_is : (t q : ℕ) (before high : Option ℕ) → t < p → q ≡ (t + (p - 1)) % p → option_map (λ (h : ℕ). t + h) high ≡ fall_of p clock t →
-      option_map (λ (b : ℕ). q + b) before ≡ fall_of p clock q → span_at p clock t ≡ span_told t before high
+      option_map (λ (b : ℕ). q + b) before ≡ fall_of p clock q → span_at p clock t ≡ span_finding t before high
   span_is t q before high below at here falls =
       ap (span_by p clock t) (sym here) ∙ by high
     where
-      by : (o : Option ℕ) → span_by p clock t (option_map (λ (h : ℕ). t + h) o) ≡ span_told t before o
+      by : (o : Option ℕ) → span_by p clock t (option_map (λ (h : ℕ). t + h) o) ≡ span_finding t before o
       by None = refl
       by (Some h) = ap (λ (b : Bool). cond b None (Some (record { first = t; last = t + h }))) (before_falls t h q before below at (sym falls))
 
@@ -80,8 +80,8 @@ module _ (p : ℕ) (long : 2 ≤ p) (clock : Folds) (cyclic : (t : ℕ) → cloc
   more_by : (o : Option Region) → cons_option o [] ≡ cons_option o []
   more_by o = refl
 
-  told_list : Option Region → List Ticked
-  told_list o = map ticks_of_region (cons_option o [])
+  finding_list : Option Region → List Ticked
+  finding_list o = map ticks_of_region (cons_option o [])
 
   spans_more : (t : ℕ) → spans_to (t + 1) ≡ spans_to t ++ map ticks_of_region (cons_option (span_at p clock t) [])
   spans_more t =
@@ -96,7 +96,7 @@ module _ (p : ℕ) (long : 2 ≤ p) (clock : Folds) (cyclic : (t : ℕ) → cloc
   -- with the span that begins in a slot, if one does
   pub spans_with : (t q : ℕ) (before high : Option ℕ) (found : Option Ticked) (old new : List Ticked) → t < p → q ≡ (t + (p - 1)) % p →
       option_map (λ (h : ℕ). t + h) high ≡ fall_of p clock t → option_map (λ (b : ℕ). q + b) before ≡ fall_of p clock q →
-      found ≡ option_map ticks_of_region (span_told t before high) → old ≡ spans_to t → new ≡ old ++ cons_option found [] → new ≡ spans_to (t + 1)
+      found ≡ option_map ticks_of_region (span_finding t before high) → old ≡ spans_to t → new ≡ old ++ cons_option found [] → new ≡ spans_to (t + 1)
   spans_with t q before high found old new below at here falls found_is old_is new_is =
       new_is ∙ (λ i. old_is i ++ cons_option ((found_is ∙ ap (option_map ticks_of_region) (sym (span_is t q before high below at here falls))) i) [])
       ∙ ap (λ (xs : List Ticked). spans_to t ++ xs) (mapped (span_at p clock t))

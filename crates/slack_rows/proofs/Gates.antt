@@ -33,10 +33,10 @@ use Rattle.critical_paths.specs.declared.direction.Direction.TheVariants.{Change
 use Rattle.critical_paths.specs.Event.{Events, events, moves}
 use Rattle.slack_rows.specs.declared.parameter.Word.{Word as Limit}
 use Rattle.slack_rows.specs.declared.parameter.Word.TheVariants.{Gate, Before as GateBefore, After as GateAfter}
-use Rattle.slack_rows.specs.Slack.{Told, is_broken, told_of}
+use Rattle.slack_rows.specs.Slack.{Finding, is_broken, finding_of}
 use Rattle.slack_rows.specs.Watch.{opens}
 use Rattle.slack_rows.specs.Launched.{gate_launches}
-use Rattle.slack_rows.specs.Limit.{beside, is_beside, is_on, pin_folds, told_check, told_in, told_instance, told_mark, told_pin, watch_beside}
+use Rattle.slack_rows.specs.Limit.{beside, is_beside, is_on, pin_folds, finding_check, finding_in, finding_instance, finding_mark, finding_pin, watch_beside}
 use Rattle.slack_rows.specs.Laws.{AreWaves, IsBroken, MarksBreakWithFaults, SomeOf}
 use Rattle.slack_rows.proofs.Somewhere.{passing_some, some_passing}
 use Rattle.slack_rows.proofs.Touching.{IsMet, met_touches, touched_met}
@@ -200,31 +200,31 @@ module _ (c : Circuit) (ws : Waves) (k : ℕ) (j : Instance) (are : AreWaves c w
             (all_placed p lets (extent_of 1 0) (omega arith) (omega (arith, long)))).1 found.holds);
       }
 
-  abbrev told : Limit → ℕ → Told
-  told limit i = told_pin c ws j limit marked i
+  abbrev finding : Limit → ℕ → Finding
+  finding limit i = finding_pin c ws j limit marked i
 
   pub marked_breaks : (is_some (hazard j.kind (pin_waves c ws j) (Some marked)) ≡ true)
-      ↔ (IsBroken (told_mark c ws j Gate (Some marked))
-      ⊎ (IsBroken (told_mark c ws j GateBefore (Some marked)) ⊎ IsBroken (told_mark c ws j GateAfter (Some marked))))
+      ↔ (IsBroken (finding_mark c ws j Gate (Some marked))
+      ⊎ (IsBroken (finding_mark c ws j GateBefore (Some marked)) ⊎ IsBroken (finding_mark c ws j GateAfter (Some marked))))
   marked_breaks =
       let inside : marked < length (pin_waves c ws j) = omega (arith, marked_inside, waves_long) in (
-        λ found. elim (some_either (λ i. IsBroken (told Gate i)) (λ i. IsBroken (told GateBefore i) ⊎ IsBroken (told GateAfter i)) (beside j marked)
+        λ found. elim (some_either (λ i. IsBroken (finding Gate i)) (λ i. IsBroken (finding GateBefore i) ⊎ IsBroken (finding GateAfter i)) (beside j marked)
             (met_breaks (disturbed_met (hazard_disturbed j.kind (pin_waves c ws j) marked inside found)))) [
-              | inl never ↦ inl ((least_iff (λ i. told_of i Change (told Gate i)) (beside j marked)).1 never)
-              | inr windows ↦ inr (elim (some_either (λ i. IsBroken (told GateBefore i)) (λ i. IsBroken (told GateAfter i)) (beside j marked) windows) [
-                | inl before ↦ inl ((least_iff (λ i. told_of i Change (told GateBefore i)) (beside j marked)).1 before)
-                | inr after ↦ inr ((least_iff (λ i. told_of i Change (told GateAfter i)) (beside j marked)).1 after)
+              | inl never ↦ inl ((least_iff (λ i. finding_of i Change (finding Gate i)) (beside j marked)).1 never)
+              | inr windows ↦ inr (elim (some_either (λ i. IsBroken (finding GateBefore i)) (λ i. IsBroken (finding GateAfter i)) (beside j marked) windows) [
+                | inl before ↦ inl ((least_iff (λ i. finding_of i Change (finding GateBefore i)) (beside j marked)).1 before)
+                | inr after ↦ inr ((least_iff (λ i. finding_of i Change (finding GateAfter i)) (beside j marked)).1 after)
               ])
             ],
         λ broken. disturbed_hazard j.kind (pin_waves c ws j) marked inside (met_disturbed (breaks_met (elim broken [
-          | inl never ↦ some_first (λ i. IsBroken (told Gate i)) (λ i. IsBroken (told GateBefore i) ⊎ IsBroken (told GateAfter i)) (beside j marked)
-              ((least_iff (λ i. told_of i Change (told Gate i)) (beside j marked)).0 never)
-          | inr windows ↦ some_second (λ i. IsBroken (told Gate i)) (λ i. IsBroken (told GateBefore i) ⊎ IsBroken (told GateAfter i)) (beside j marked)
+          | inl never ↦ some_first (λ i. IsBroken (finding Gate i)) (λ i. IsBroken (finding GateBefore i) ⊎ IsBroken (finding GateAfter i)) (beside j marked)
+              ((least_iff (λ i. finding_of i Change (finding Gate i)) (beside j marked)).0 never)
+          | inr windows ↦ some_second (λ i. IsBroken (finding Gate i)) (λ i. IsBroken (finding GateBefore i) ⊎ IsBroken (finding GateAfter i)) (beside j marked)
               (elim windows [
-                | inl before ↦ some_first (λ i. IsBroken (told GateBefore i)) (λ i. IsBroken (told GateAfter i)) (beside j marked)
-                    ((least_iff (λ i. told_of i Change (told GateBefore i)) (beside j marked)).0 before)
-                | inr after ↦ some_second (λ i. IsBroken (told GateBefore i)) (λ i. IsBroken (told GateAfter i)) (beside j marked)
-                    ((least_iff (λ i. told_of i Change (told GateAfter i)) (beside j marked)).0 after)
+                | inl before ↦ some_first (λ i. IsBroken (finding GateBefore i)) (λ i. IsBroken (finding GateAfter i)) (beside j marked)
+                    ((least_iff (λ i. finding_of i Change (finding GateBefore i)) (beside j marked)).0 before)
+                | inr after ↦ some_second (λ i. IsBroken (finding GateBefore i)) (λ i. IsBroken (finding GateAfter i)) (beside j marked)
+                    ((least_iff (λ i. finding_of i Change (finding GateAfter i)) (beside j marked)).0 after)
               ])
         ]))),
       )
@@ -234,7 +234,7 @@ module _ (c : Circuit) (ws : Waves) (k : ℕ) (j : Instance) (are : AreWaves c w
 unmarked_or : (c : Circuit) (ws : Waves) (k : ℕ) (j : Instance) → AreWaves c ws → slice_get c.instances k ≡ Some j →
     (o : Option ℕ) → marked_pin j ≡ o →
     (is_some (hazard j.kind (pin_waves c ws j) o) ≡ true)
-    ↔ (IsBroken (told_mark c ws j Gate o) ⊎ (IsBroken (told_mark c ws j GateBefore o) ⊎ IsBroken (told_mark c ws j GateAfter o)))
+    ↔ (IsBroken (finding_mark c ws j Gate o) ⊎ (IsBroken (finding_mark c ws j GateBefore o) ⊎ IsBroken (finding_mark c ws j GateAfter o)))
 unfolding hazard
 unmarked_or c ws k j are at None is = (
   λ none. absurd (cc),
@@ -268,22 +268,22 @@ unmap f None = refl
 unmap f (Some x) = refl
 
 pub marks_break_with_faults : MarksBreakWithFaults
-unfolding instance_fault told_in
+unfolding instance_fault finding_in
 marks_break_with_faults c ws k j are at marks =
     let both = unmarked_or c ws k j are at (marked_pin j) refl in
     let points = no_checker j.kind marks in
     let fault_is : is_some (fault_of c ws k (slice_get c.instances k)) ≡ is_some (hazard j.kind (pin_waves c ws j) (marked_pin j)) =
     ap (λ o. is_some (fault_of c ws k o)) at ∙ (λ i. is_some (fault_by (points i) (marks i) c ws k j))
     ∙ unmap (hazard_at k) (hazard j.kind (pin_waves c ws j) (marked_pin j)) in
-    let told_is : (limit : Limit) → is_broken (told_instance c ws limit (slice_get c.instances k)).slack ≡ is_broken (told_mark c ws j limit (marked_pin j)).slack =
-    λ limit. ap (λ o. is_broken (told_instance c ws limit o).slack) at
-    ∙ ap (λ (b : Bool). is_broken (cond b (told_mark c ws j limit (marked_pin j)) (told_check c ws j limit (check_of j.kind))).slack) marks in (
+    let finding_is : (limit : Limit) → is_broken (finding_instance c ws limit (slice_get c.instances k)).slack ≡ is_broken (finding_mark c ws j limit (marked_pin j)).slack =
+    λ limit. ap (λ o. is_broken (finding_instance c ws limit o).slack) at
+    ∙ ap (λ (b : Bool). is_broken (cond b (finding_mark c ws j limit (marked_pin j)) (finding_check c ws j limit (check_of j.kind))).slack) marks in (
       λ found. elim (both.0 (sym fault_is ∙ found)) [
-        | inl never ↦ inl (told_is Gate ∙ never)
-        | inr windows ↦ inr (elim windows [ inl before ↦ inl (told_is GateBefore ∙ before) | inr after ↦ inr (told_is GateAfter ∙ after) ])
+        | inl never ↦ inl (finding_is Gate ∙ never)
+        | inr windows ↦ inr (elim windows [ inl before ↦ inl (finding_is GateBefore ∙ before) | inr after ↦ inr (finding_is GateAfter ∙ after) ])
       ],
       λ broken. fault_is ∙ both.1 (elim broken [
-        | inl never ↦ inl (sym (told_is Gate) ∙ never)
-        | inr windows ↦ inr (elim windows [ inl before ↦ inl (sym (told_is GateBefore) ∙ before) | inr after ↦ inr (sym (told_is GateAfter) ∙ after) ])
+        | inl never ↦ inl (sym (finding_is Gate) ∙ never)
+        | inr windows ↦ inr (elim windows [ inl before ↦ inl (sym (finding_is GateBefore) ∙ before) | inr after ↦ inr (sym (finding_is GateAfter) ∙ after) ])
       ]),
     )

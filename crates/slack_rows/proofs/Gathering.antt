@@ -23,23 +23,23 @@ use Rattle.slack_rows.specs.declared.around.Around.{Around}
 use Rattle.slack_rows.specs.declared.around.Side.{Side as Counted}
 use Rattle.slack_rows.specs.declared.held.Held.{Held}
 use Rattle.slack_rows.specs.declared.slack.Slacks.{Slacks}
-use Rattle.slack_rows.specs.declared.slack.Told.{Told as Found}
+use Rattle.slack_rows.specs.declared.slack.Finding.{Finding as Found}
 use Rattle.slack_rows.specs.declared.window.Window.{Window as Ticks}
 use Rattle.slack_rows.specs.Window.{Window, Side, counts_after, counts_before, meets, met}
-use Rattle.slack_rows.specs.Slack.{At, Free, Launches, Told, is_broken, is_free, is_less, least, lesser, Ticks as TicksLeft, after_at, after_by, after_window, before_at, before_by, before_window, first_after, if_inside, is_open, last_before, told_of, two_alone, two_in, two_launches}
+use Rattle.slack_rows.specs.Slack.{At, Free, Launches, Finding, is_broken, is_free, is_less, least, lesser, Ticks as TicksLeft, after_at, after_by, after_window, before_at, before_by, before_window, first_after, if_inside, is_open, last_before, finding_of, two_alone, two_in, two_launches}
 use Rattle.slack_rows.specs.Laws.{IsPlaced}
 use Rattle.slack_rows.specs.Launched.{two_by}
 use Rattle.critical_paths.specs.Tick.{IsWithin, most_tick}
 use Rattle.slack_rows.specs.declared.window.Extent.{Extent}
-use Rattle.slack_rows.specs.Views.{IsByRegion, Tells, ahead_of, counts_first, counts_last, end_at, is_two, meets_window, lesser_found, region_in, spare_at, told_by_region, window_about, window_in}
+use Rattle.slack_rows.specs.Views.{IsByRegion, Tells, ahead_of, counts_first, counts_last, end_at, is_two, meets_window, lesser_found, region_in, spare_at, finding_by_region, window_about, window_in}
 use Rattle.slack_rows.specs.Held.{AreAlike, AreAround, AreChanges, IsBrokenByTwo, IsClose, IsCloseWindow, IsHeld, IsInPeriod, Lies, MayBeClose, MayBeHeld, TellWindow, TellWindows, first_item, held_edge, in_period, in_periods, last_item, launches_of, side_held, slacks_of_two, two_of, windows_about}
 use Rattle.slack_rows.proofs.Kept.{filter_more, first_more, last_more}
 use Rattle.slack_rows.proofs.Lying.{ahead_is}
 use Rattle.slack_rows.proofs.Near.{first_found, first_made as near_first, last_found, last_made as near_last}
-use Rattle.slack_rows.proofs.Paired.{regions_one, told_one}
-use Rattle.slack_rows.proofs.Alike.{alike_broken, alike_lesser, alike_none, alike_told}
+use Rattle.slack_rows.proofs.Paired.{regions_one, finding_one}
+use Rattle.slack_rows.proofs.Alike.{alike_broken, alike_lesser, alike_none, alike_finding}
 use Rattle.slack_rows.proofs.Unrolled.{moved_region, regions_more}
-use Rattle.slack_rows.proofs.Tellings.{least_map_more, lesser_of, tells_lesser, told_slack}
+use Rattle.slack_rows.proofs.Findings.{least_map_more, lesser_of, tells_lesser, finding_slack}
 use Rattle.slack_rows.proofs.Watched.{some_gap}
 use Rattle.slack_rows.proofs.Windows.{le_true}
 
@@ -226,7 +226,7 @@ module _ (p : ℕ) (pin : ℕ) (d : Direction) (w : Ticks) (near : IsCloseWindow
   abbrev own : Window
   own = window_in p w
 
-  near_region : (corner : Corner) (r : Ticked) → IsClose p r → IsByRegion p (told_by_region pin d corner w r) r
+  near_region : (corner : Corner) (r : Ticked) → IsClose p r → IsByRegion p (finding_by_region pin d corner w r) r
   near_region corner r close =
       let from = close.from in
       let ordered = close.ordered in
@@ -240,8 +240,8 @@ module _ (p : ℕ) (pin : ℕ) (d : Direction) (w : Ticks) (near : IsCloseWindow
       }
 
   pub tells_last : (ev : Events) (o : Option Ticked) → MayBeClose p o → IfSome (option_map (region_in p) o) (λ r. region_to p ev r.last ≡ r) →
-      Tells p (option_map (told_by_region pin d LateCorner w) o)
-      (told_of pin d (before_at p ev own (option_map (λ (r : Region). r.last) (option_map (region_in p) o))))
+      Tells p (option_map (finding_by_region pin d LateCorner w) o)
+      (finding_of pin d (before_at p ev own (option_map (λ (r : Region). r.last) (option_map (region_in p) o))))
   tells_last ev None close made = refl
   tells_last ev (Some r) close made =
       let opens = ahead_is p (w.from -ℤ pos 1) near.opens in
@@ -253,8 +253,8 @@ module _ (p : ℕ) (pin : ℕ) (d : Direction) (w : Ticks) (near : IsCloseWindow
       }
 
   pub tells_first : (ev : Events) (o : Option Ticked) → MayBeClose p o → IfSome (option_map (region_in p) o) (λ r. region_from p ev r.first ≡ r) →
-      Tells p (option_map (told_by_region pin d EarlyCorner w) o)
-      (told_of pin d (after_at p ev own (option_map (λ (r : Region). r.first) (option_map (region_in p) o))))
+      Tells p (option_map (finding_by_region pin d EarlyCorner w) o)
+      (finding_of pin d (after_at p ev own (option_map (λ (r : Region). r.first) (option_map (region_in p) o))))
   tells_first ev None close made = refl
   tells_first ev (Some r) close made =
       let closes = ahead_is p w.to (let from = near.opens in let ordered = near.ordered in omega (arith, ints, from, ordered)) in
@@ -331,46 +331,46 @@ module _ (p : ℕ) (ev : Events) (changes : List Ticked) (long : 2 ≤ p) (are :
       side_by (Some h) = refl
 
   -- the slacks by the regions
-  module _ (pin : ℕ) (d : Direction) (found : Slacks) (before : found.before ≡ option_map (told_by_region pin d LateCorner w) all.last)
-      (after : found.after ≡ option_map (told_by_region pin d EarlyCorner w) all.first) where
-    region_before : Tells p found.before (told_of pin d (before_at p ev win (last_before p ev (launches.side win) win)))
+  module _ (pin : ℕ) (d : Direction) (found : Slacks) (before : found.before ≡ option_map (finding_by_region pin d LateCorner w) all.last)
+      (after : found.after ≡ option_map (finding_by_region pin d EarlyCorner w) all.first) where
+    region_before : Tells p found.before (finding_of pin d (before_at p ev win (last_before p ev (launches.side win) win)))
     region_before =
-        subst (λ (o : Option Found). Tells p o (told_of pin d (before_at p ev win (last_before p ev (launches.side win) win)))) (sym before)
-        (subst (λ (told : Option ℕ). Tells p (option_map (told_by_region pin d LateCorner w) all.last) (told_of pin d (before_at p ev win told))) last_is
+        subst (λ (o : Option Found). Tells p o (finding_of pin d (before_at p ev win (last_before p ev (launches.side win) win)))) (sym before)
+        (subst (λ (finding : Option ℕ). Tells p (option_map (finding_by_region pin d LateCorner w) all.last) (finding_of pin d (before_at p ev win finding))) last_is
         (tells_last p pin d w near ev all.last around.close_last made_last))
 
-    region_after : Tells p found.after (told_of pin d (after_at p ev win (first_after p ev (launches.side win) win)))
+    region_after : Tells p found.after (finding_of pin d (after_at p ev win (first_after p ev (launches.side win) win)))
     region_after =
-        subst (λ (o : Option Found). Tells p o (told_of pin d (after_at p ev win (first_after p ev (launches.side win) win)))) (sym after)
-        (subst (λ (told : Option ℕ). Tells p (option_map (told_by_region pin d EarlyCorner w) all.first) (told_of pin d (after_at p ev win told))) first_is
+        subst (λ (o : Option Found). Tells p o (finding_of pin d (after_at p ev win (first_after p ev (launches.side win) win)))) (sym after)
+        (subst (λ (finding : Option ℕ). Tells p (option_map (finding_by_region pin d EarlyCorner w) all.first) (finding_of pin d (after_at p ev win finding))) first_is
         (tells_first p pin d w near ev all.first around.close_first made_first))
 
-    exact_before : two_in p ev (two_of c ws held) win ≡ false → Tells p found.before (told_of pin d (before_window p ev launches win))
+    exact_before : two_in p ev (two_of c ws held) win ≡ false → Tells p found.before (finding_of pin d (before_window p ev launches win))
     exact_before none =
-        subst (λ (two : Option (ℕ × ℕ)). Tells p found.before (told_of pin d (before_by p ev win two (last_before p ev (launches.side win) win))))
+        subst (λ (two : Option (ℕ × ℕ)). Tells p found.before (finding_of pin d (before_by p ev win two (last_before p ev (launches.side win) win))))
         (sym (no_two c ws held win (met p ev win) none)) region_before
 
-    exact_after : two_in p ev (two_of c ws held) win ≡ false → Tells p found.after (told_of pin d (after_window p ev launches win))
+    exact_after : two_in p ev (two_of c ws held) win ≡ false → Tells p found.after (finding_of pin d (after_window p ev launches win))
     exact_after none =
-        subst (λ (two : Option (ℕ × ℕ)). Tells p found.after (told_of pin d (after_by p ev win two (first_after p ev (launches.side win) win))))
+        subst (λ (two : Option (ℕ × ℕ)). Tells p found.after (finding_of pin d (after_by p ev win two (first_after p ev (launches.side win) win))))
         (sym (no_two c ws held win (met p ev win) none)) region_after
 
     regions_alike : (b : Bool) → two_in p ev (two_of c ws held) win ≡ b →
         AreAlike found (before_window p ev launches win).slack (after_window p ev launches win).slack
     regions_alike false none =
-        alike_told p found (told_of pin d (before_window p ev launches win)) (told_of pin d (after_window p ev launches win))
+        alike_finding p found (finding_of pin d (before_window p ev launches win)) (finding_of pin d (after_window p ev launches win))
         (exact_before none) (exact_after none)
     regions_alike true two =
         let one = regions_one p ev are.cyclic long are.some c ws held win placed two in
-        let last = told_slack p found.before (told_of pin d (before_at p ev win (last_before p ev (launches.side win) win))) region_before in
-        let first = told_slack p found.after (told_of pin d (after_at p ev win (first_after p ev (launches.side win) win))) region_after in
+        let last = finding_slack p found.before (finding_of pin d (before_at p ev win (last_before p ev (launches.side win) win))) region_before in
+        let first = finding_slack p found.after (finding_of pin d (after_at p ev win (first_after p ev (launches.side win) win))) region_after in
         alike_broken found (before_window p ev launches win).slack (after_window p ev launches win).slack
         record {
           before = ap is_free last ∙ one.before;
           after = ap is_free first ∙ one.after;
           broken = (λ i. is_broken (last i) || is_broken (first i)) ∙ one.broken;
         }
-        (told_one p ev are.cyclic long are.some c ws held win placed two)
+        (finding_one p ev are.cyclic long are.some c ws held win placed two)
 
     pub tell_window : TellWindow p ev launches (two_of c ws held) pin d win found
     tell_window =
@@ -388,7 +388,7 @@ module _ (p : ℕ) (ev : Events) (changes : List Ticked) (long : 2 ≤ p) (are :
         before = λ none. contrary none;
         after = λ none. contrary none;
         alike = alike_broken found (before_window p ev launches win).slack (after_window p ev launches win).slack broken
-            (told_one p ev are.cyclic long are.some c ws held win placed (surely (two_in p ev (two_of c ws held) win) refl));
+            (finding_one p ev are.cyclic long are.some c ws held win placed (surely (two_in p ev (two_of c ws held) win) refl));
       }
     where
       contrary : {X : Type 0} → two_in p ev (two_of c ws held) win ≡ false → X
@@ -406,16 +406,16 @@ module _ (p : ℕ) (ev : Events) (changes : List Ticked) (long : 2 ≤ p) (are :
       surely false is = contrary is
 
   -- whichever is told
-  pub about_told : (pin : ℕ) (d : Direction) (o : Option (Held × Ticked)) (two : Option Slacks) (regions_told found : Slacks) →
+  pub about_finding : (pin : ℕ) (d : Direction) (o : Option (Held × Ticked)) (two : Option Slacks) (regions_finding found : Slacks) →
       IfSome o (λ f. all.two ≡ Some f.1) → IfSome o (λ f. all.met ≡ 1) → (o ≡ None → two ≡ None) → IfSome two IsBrokenByTwo →
-      regions_told.before ≡ option_map (told_by_region pin d LateCorner w) all.last →
-      regions_told.after ≡ option_map (told_by_region pin d EarlyCorner w) all.first →
-      found ≡ slacks_of_two two regions_told → TellWindow p ev launches (two_of c ws held) pin d win found
-  about_told pin d o None regions_told found is one only broken before after told =
-      tell_window pin d found (ap (λ (s : Slacks). s.before) told ∙ before) (ap (λ (s : Slacks). s.after) told ∙ after)
-  about_told pin d None (Some s) regions_told found is one only broken before after told = absurd (cc (only refl))
-  about_told pin d (Some f) (Some s) regions_told found is one only broken before after told =
-      tell_two pin d f.1 found is one (subst IsBrokenByTwo (sym told) broken)
+      regions_finding.before ≡ option_map (finding_by_region pin d LateCorner w) all.last →
+      regions_finding.after ≡ option_map (finding_by_region pin d EarlyCorner w) all.first →
+      found ≡ slacks_of_two two regions_finding → TellWindow p ev launches (two_of c ws held) pin d win found
+  about_finding pin d o None regions_finding found is one only broken before after finding =
+      tell_window pin d found (ap (λ (s : Slacks). s.before) finding ∙ before) (ap (λ (s : Slacks). s.after) finding ∙ after)
+  about_finding pin d None (Some s) regions_finding found is one only broken before after finding = absurd (cc (only refl))
+  about_finding pin d (Some f) (Some s) regions_finding found is one only broken before after finding =
+      tell_two pin d f.1 found is one (subst IsBrokenByTwo (sym finding) broken)
 
 -- ---- loops
 
@@ -480,17 +480,17 @@ module _ (p : ℕ) (ev : Events) (launches : Launches) (two : Window → Region 
   tell_none all is =
       record {
         level = ap (λ (s : Slacks). s.level) is;
-        before = λ exact. subst (λ (o : Option Found). Tells p o (told_of pin d (least []))) (sym (ap (λ (s : Slacks). s.before) is)) refl;
-        after = λ exact. subst (λ (o : Option Found). Tells p o (told_of pin d (least []))) (sym (ap (λ (s : Slacks). s.after) is)) refl;
+        before = λ exact. subst (λ (o : Option Found). Tells p o (finding_of pin d (least []))) (sym (ap (λ (s : Slacks). s.before) is)) refl;
+        after = λ exact. subst (λ (o : Option Found). Tells p o (finding_of pin d (least []))) (sym (ap (λ (s : Slacks). s.after) is)) refl;
         alike = alike_none all Free Free (ap (λ (s : Slacks). s.before) is) (ap (λ (s : Slacks). s.after) is) refl refl;
       }
 
-  with_one : (at : Window → Told) (ws : List Window) (w : Window) (best one all : Option Found) → all ≡ lesser_found best one →
-      Tells p best (told_of pin d (least (map at ws))) → Tells p one (told_of pin d (at w)) → Tells p all (told_of pin d (least (map at (ws ++ w ∷ []))))
+  with_one : (at : Window → Finding) (ws : List Window) (w : Window) (best one all : Option Found) → all ≡ lesser_found best one →
+      Tells p best (finding_of pin d (least (map at ws))) → Tells p one (finding_of pin d (at w)) → Tells p all (finding_of pin d (least (map at (ws ++ w ∷ []))))
   with_one at ws w best one all all_is first second =
-      subst (λ (o : Option Found). Tells p o (told_of pin d (least (map at (ws ++ w ∷ []))))) (sym all_is)
-      (subst (Tells p (lesser_found best one)) (lesser_of pin d (least (map at ws)) (at w) ∙ ap (told_of pin d) (sym (least_map_more at ws w)))
-      (tells_lesser p best one (told_of pin d (least (map at ws))) (told_of pin d (at w)) first second))
+      subst (λ (o : Option Found). Tells p o (finding_of pin d (least (map at (ws ++ w ∷ []))))) (sym all_is)
+      (subst (Tells p (lesser_found best one)) (lesser_of pin d (least (map at ws)) (at w) ∙ ap (finding_of pin d) (sym (least_map_more at ws w)))
+      (tells_lesser p best one (finding_of pin d (least (map at ws))) (finding_of pin d (at w)) first second))
 
   any_parts : (ws : List Window) (w : Window) → list_any (two_in p ev two) (ws ++ w ∷ []) ≡ false →
       (list_any (two_in p ev two) ws ≡ false) × (two_in p ev two w ≡ false)
@@ -510,9 +510,9 @@ module _ (p : ℕ) (ev : Events) (launches : Launches) (two : Window → Region 
         after = λ exact. let parts = any_parts ws w exact in
             with_one (after_window p ev launches) ws w all.after found.after next.after after_is (so.after parts.0) (here.after parts.1);
         alike =
-            subst (λ (told : Told). AreAlike next told.slack (least (map (after_window p ev launches) (ws ++ w ∷ []))).slack)
+            subst (λ (finding : Finding). AreAlike next finding.slack (least (map (after_window p ev launches) (ws ++ w ∷ []))).slack)
             (sym (least_map_more (before_window p ev launches) ws w))
-            (subst (λ (told : Told). AreAlike next (lesser (least (map (before_window p ev launches) ws)) (before_window p ev launches w)).slack told.slack)
+            (subst (λ (finding : Finding). AreAlike next (lesser (least (map (before_window p ev launches) ws)) (before_window p ev launches w)).slack finding.slack)
             (sym (least_map_more (after_window p ev launches) ws w))
             (alike_lesser all found next (least (map (before_window p ev launches) ws)) (least (map (after_window p ev launches) ws))
             (before_window p ev launches w) (after_window p ev launches w) so.alike here.alike before_is after_is));
@@ -590,10 +590,10 @@ close_within p (Some r) close =
     let last = close.last in
     (omega (arith, first), omega (arith, last))
 
-pub level_either : (two : Option Slacks) (regions_told found : Slacks) → IfSome two (λ s. s.level ≡ None) → regions_told.level ≡ None →
-    found ≡ slacks_of_two two regions_told → found.level ≡ None
-level_either None regions_told found two regions is = ap (λ (s : Slacks). s.level) is ∙ regions
-level_either (Some s) regions_told found two regions is = ap (λ (s : Slacks). s.level) is ∙ two
+pub level_either : (two : Option Slacks) (regions_finding found : Slacks) → IfSome two (λ s. s.level ≡ None) → regions_finding.level ≡ None →
+    found ≡ slacks_of_two two regions_finding → found.level ≡ None
+level_either None regions_finding found two regions is = ap (λ (s : Slacks). s.level) is ∙ regions
+level_either (Some s) regions_finding found two regions is = ap (λ (s : Slacks). s.level) is ∙ two
 
 pub met_two : (c : Circuit) (p : ℕ) (held : Option Held) (all : Option Ticked) (o : Option (Held × Ticked)) → MayBeHeld c held → MayBeClose p all →
     IfSome o (λ f. held ≡ Some f.0) → IfSome o (λ f. all ≡ Some f.1) → IfSome o (λ f. IsHeld c f.0 × IsClose p f.1)

@@ -10,8 +10,8 @@ use Rattle.slack_rows.specs.declared.parameter.Parameter.{Parameter}
 use Rattle.slack_rows.specs.declared.parameter.Subject.{Subject}
 use Rattle.slack_rows.specs.declared.parameter.Word.{Word as Limit}
 use Rattle.slack_rows.specs.declared.slack.Slacks.{Slacks}
-use Rattle.slack_rows.specs.declared.slack.Told.{Told as Found}
-use Rattle.slack_rows.specs.Limit.{Case, by_arrivals, told_case, told_in}
+use Rattle.slack_rows.specs.declared.slack.Finding.{Finding as Found}
+use Rattle.slack_rows.specs.Limit.{Case, by_arrivals, finding_case, finding_in}
 use Rattle.slack_rows.specs.Rows.{all_limits, limit_with, limits_at, limits_of, subjects}
 use Rattle.slack_rows.specs.Known.{IsAlike, SlacksKnown}
 use Rattle.slack_rows.specs.Views.{Tells, slack_for}
@@ -49,30 +49,30 @@ read_some (w ∷ words) zero word at = (omega arith, some_same w word (Some w) r
 read_some (w ∷ words) (suc k) word at = let rest = read_some words k word at in let below = rest.0 in (omega (arith, below), rest.1)
 
 -- that of a limit
-pub told_now : (c : Circuit) (ws : Waves) (one : Case) (slacks : Slacks) (limits : List Parameter) (i : ℕ) (q : Parameter) →
+pub finding_now : (c : Circuit) (ws : Waves) (one : Case) (slacks : Slacks) (limits : List Parameter) (i : ℕ) (q : Parameter) →
     limits ≡ all_limits c → slice_get limits i ≡ Some q → one.waves ≡ ws → SlacksKnown c ws (Some q.subject) slacks →
-    by_arrivals c one.waves q.subject ≡ false → Tells (period c.header) (slack_for slacks q.word) (told_case c q.subject q.word one)
-told_now c ws one slacks limits i q are at same known sure =
+    by_arrivals c one.waves q.subject ≡ false → Tells (period c.header) (slack_for slacks q.word) (finding_case c q.subject q.word one)
+finding_now c ws one slacks limits i q are at same known sure =
     let found = word_of c (subjects c) i q (ap (λ (xs : List Parameter). slice_get xs i) (sym are) ∙ at) in
     let read = read_some (limits_of c q.subject) found.0 q.word found.1 in
-    subst (λ (waves : Waves). Tells (period c.header) (slack_for slacks q.word) (told_in c waves q.subject q.word)) (sym same)
-    (subst (λ (word : Limit). Tells (period c.header) (slack_for slacks word) (told_in c ws q.subject word)) read.1
+    subst (λ (waves : Waves). Tells (period c.header) (slack_for slacks q.word) (finding_in c waves q.subject q.word)) (sym same)
+    (subst (λ (word : Limit). Tells (period c.header) (slack_for slacks word) (finding_in c ws q.subject word)) read.1
     (known.exact (ap (λ (waves : Waves). by_arrivals c waves q.subject) (sym same) ∙ sure) found.0 q.word read.0))
 
 pub tells_now : (c : Circuit) (ws : Waves) (one : Case) (slacks : Slacks) (limits : List Parameter) (i : ℕ) (q : Parameter) (found : Option Found) →
     found ≡ slack_for slacks q.word → limits ≡ all_limits c → slice_get limits i ≡ Some q → one.waves ≡ ws →
     SlacksKnown c ws (Some q.subject) slacks → by_arrivals c one.waves q.subject ≡ false →
-    Tells (period c.header) found (told_case c q.subject q.word one)
+    Tells (period c.header) found (finding_case c q.subject q.word one)
 tells_now c ws one slacks limits i q found is are at same known sure =
-    subst (λ (o : Option Found). Tells (period c.header) o (told_case c q.subject q.word one)) (sym is)
-    (told_now c ws one slacks limits i q are at same known sure)
+    subst (λ (o : Option Found). Tells (period c.header) o (finding_case c q.subject q.word one)) (sym is)
+    (finding_now c ws one slacks limits i q are at same known sure)
 
 -- whatever arrivals say
 pub alike_now : (c : Circuit) (ws : Waves) (one : Case) (slacks : Slacks) (limits : List Parameter) (i : ℕ) (q : Parameter) →
     limits ≡ all_limits c → slice_get limits i ≡ Some q → one.waves ≡ ws → SlacksKnown c ws (Some q.subject) slacks →
-    IsAlike (told_in c one.waves q.subject) slacks q.word
+    IsAlike (finding_in c one.waves q.subject) slacks q.word
 alike_now c ws one slacks limits i q are at same known =
     let found = word_of c (subjects c) i q (ap (λ (xs : List Parameter). slice_get xs i) (sym are) ∙ at) in
     let read = read_some (limits_of c q.subject) found.0 q.word found.1 in
-    subst (λ (waves : Waves). IsAlike (told_in c waves q.subject) slacks q.word) (sym same)
-    (subst (λ (word : Limit). IsAlike (told_in c ws q.subject) slacks word) read.1 (known.alike found.0 q.word read.0))
+    subst (λ (waves : Waves). IsAlike (finding_in c waves q.subject) slacks q.word) (sym same)
+    (subst (λ (word : Limit). IsAlike (finding_in c ws q.subject) slacks word) read.1 (known.alike found.0 q.word read.0))

@@ -27,7 +27,7 @@ use Rattle.critical_paths.specs.Views.{IsPin}
 use Rattle.std.specs.Prelude.{IfSome}
 use Rattle.slack_rows.specs.declared.held.Held.{Held}
 use Rattle.slack_rows.specs.declared.window.Window.{Window as Ticks}
-use Rattle.slack_rows.specs.Held.{GoesOn, IsCloseWindow, IsHeld, IsNearPath, edge_at_pin, step_held, told_back}
+use Rattle.slack_rows.specs.Held.{GoesOn, IsCloseWindow, IsHeld, IsNearPath, edge_at_pin, step_held, finding_back}
 use Rattle.slack_rows.specs.Shown.{Explains}
 use Rattle.slack_rows.proofs.Lying.{ahead_is}
 
@@ -48,17 +48,17 @@ pair_of : (net : ℕ) (x y : ℤ) → x ≡ y → ◌≡◌ {A = Option (ℕ × 
 pair_of net x y same = ap (λ (z : ℤ). Some (net, z)) same
 
 edge_back : (c : Circuit) (corner : Corner) (ticks : ℕ) (tick later : ℤ) (path : Path) → later ≡ pos ticks +ℤ tick →
-    option_map edge_pair (edge_of c corner tick path) ≡ option_map (told_back ticks) (edge_of c corner later path)
+    option_map edge_pair (edge_of c corner tick path) ≡ option_map (finding_back ticks) (edge_of c corner later path)
 edge_back c corner ticks tick later path at = by path.end
   where
     offset : (o : Option ℤ) →
         option_map edge_pair (option_map (λ after. record { net = path.last.net; tick = source_tick tick path -ℤ after }) o)
-        ≡ option_map (told_back ticks) (option_map (λ after. record { net = path.last.net; tick = source_tick later path -ℤ after }) o)
+        ≡ option_map (finding_back ticks) (option_map (λ after. record { net = path.last.net; tick = source_tick later path -ℤ after }) o)
     offset None = refl
     offset (Some after) =
         pair_of path.last.net (source_tick tick path -ℤ after) (source_tick later path -ℤ after -ℤ pos ticks) (omega (arith, ints, at))
 
-    by : (e : End) → option_map edge_pair (edge_by c corner tick path e) ≡ option_map (told_back ticks) (edge_by c corner later path e)
+    by : (e : End) → option_map edge_pair (edge_by c corner tick path e) ≡ option_map (finding_back ticks) (edge_by c corner later path e)
     by Source = offset (offset_of c corner path.last)
     by Loop = refl
     by Nothing = refl
@@ -68,7 +68,7 @@ edge_back c corner ticks tick later path at = by path.end
 -- what is found of the path that a pin shows
 record IsPathAt (nodes : List Node) (at : At) (x : Option PinPath) : Type 0 where
   path : Path
-  told : path_known nodes at.node ≡ Some path
+  finding : path_known nodes at.node ≡ Some path
   is : x ≡ Some (record { wire = at.wire; path = path })
 
 is_path_at : (nodes : List Node) (at : At) (x : Option PinPath) → option_map (path_at nodes) (Some at) ≡ option_map Some x → IsPathAt nodes at x
@@ -76,14 +76,14 @@ is_path_at nodes at None same = absurd (cc)
 is_path_at nodes at (Some found) same = by (path_known nodes at.node) refl
   where
     by : (o : Option Path) → path_known nodes at.node ≡ o → IsPathAt nodes at (Some found)
-    by None told =
-        let none : ◌≡◌ {A = Option (Option PinPath)} (Some None) (Some (Some found)) = ap (λ (o : Option Path). Some (pin_path_by at.wire o)) (sym told) ∙ same in
+    by None finding =
+        let none : ◌≡◌ {A = Option (Option PinPath)} (Some None) (Some (Some found)) = ap (λ (o : Option Path). Some (pin_path_by at.wire o)) (sym finding) ∙ same in
         absurd (cc)
-    by (Some path) told =
+    by (Some path) finding =
         let made : PinPath = record { wire = at.wire; path = path } in
-        let one : ◌≡◌ {A = Option (Option PinPath)} (Some (Some made)) (Some (Some found)) = ap (λ (o : Option Path). Some (pin_path_by at.wire o)) (sym told) ∙ same in
+        let one : ◌≡◌ {A = Option (Option PinPath)} (Some (Some made)) (Some (Some found)) = ap (λ (o : Option Path). Some (pin_path_by at.wire o)) (sym finding) ∙ same in
         let inner : ◌≡◌ {A = Option PinPath} (Some found) (Some made) = cc in
-        record { path = path; told = told; is = inner }
+        record { path = path; finding = finding; is = inner }
 
 pub within : (nodes : List Node) (at : At) (x : Option PinPath) → option_map (path_at nodes) (Some at) ≡ option_map Some x → at.node < length nodes
 within nodes at x same = by (slice_get nodes at.node) refl
@@ -93,7 +93,7 @@ within nodes at x same = by (slice_get nodes at.node) refl
 
     by : (o : Option Node) → slice_get nodes at.node ≡ o → at.node < length nodes
     by None is =
-        let none : known_by nodes None ≡ Some found.path = ap (known_by nodes) (sym is) ∙ found.told in
+        let none : known_by nodes None ≡ Some found.path = ap (known_by nodes) (sym is) ∙ found.finding in
         absurd (cc)
     by (Some n) is = slice_get_within nodes at.node n is
 
@@ -114,28 +114,28 @@ module _ (c : Circuit) (ws : Waves) (some : 0 < period c.header) (corner : Corne
       by None is = refl
       by (Some path) is = absurd (cc)
 
-  pub edge_told_is : (nodes : List Node) (at : At) → option_map (path_at nodes) (Some at) ≡ option_map Some shown →
+  pub edge_finding_is : (nodes : List Node) (at : At) → option_map (path_at nodes) (Some at) ≡ option_map Some shown →
       at.tick +ℤ pos at.wire ≡ tick →
       edge_in nodes at ≡ option_map edge_pair (option_and_then (edge_of c corner at.tick) (path_known nodes at.node)) →
-      edge_in nodes at ≡ option_map (told_back (3 * period c.header)) (edge_at_pin c ws corner pin d (ahead_of (period c.header) tick))
-  edge_told_is nodes at same sum edge =
-      let told = is_path_at nodes at shown same in
+      edge_in nodes at ≡ option_map (finding_back (3 * period c.header)) (edge_at_pin c ws corner pin d (ahead_of (period c.header) tick))
+  edge_finding_is nodes at same sum edge =
+      let finding = is_path_at nodes at shown same in
       let ahead = ahead_is (period c.header) tick from in
       edge
-      ∙ ap (λ (o : Option Path). option_map edge_pair (option_and_then (edge_of c corner at.tick) o)) told.told
-      ∙ edge_back c corner (3 * period c.header) at.tick (pos (ahead_of (period c.header) tick) -ℤ pos at.wire) told.path (omega (arith, ints, ahead, sum))
-      ∙ ap (option_map (told_back (3 * period c.header))) (sym (at_slot ∙ ap (edge_of_pin c corner (ahead_of (period c.header) tick)) told.is))
+      ∙ ap (λ (o : Option Path). option_map edge_pair (option_and_then (edge_of c corner at.tick) o)) finding.finding
+      ∙ edge_back c corner (3 * period c.header) at.tick (pos (ahead_of (period c.header) tick) -ℤ pos at.wire) finding.path (omega (arith, ints, ahead, sum))
+      ∙ ap (option_map (finding_back (3 * period c.header))) (sym (at_slot ∙ ap (edge_of_pin c corner (ahead_of (period c.header) tick)) finding.is))
 
 -- ---- two of them
 
 if_same : (b : Bool) (x y : ℤ) → x ≡ y → ◌≡◌ {A = Option ℤ} (cond b (Some x) None) (cond b (Some y) None)
 if_same b x y same = ap (λ (z : ℤ). cond b (Some z) None) same
 
-pub ago_same : (ticks : ℕ) (own clock : Option (ℕ × ℤ)) (a b : Option Edge) → own ≡ option_map (told_back ticks) a →
-    clock ≡ option_map (told_back ticks) b → ago_in own clock ≡ ago a b
+pub ago_same : (ticks : ℕ) (own clock : Option (ℕ × ℤ)) (a b : Option Edge) → own ≡ option_map (finding_back ticks) a →
+    clock ≡ option_map (finding_back ticks) b → ago_in own clock ≡ ago a b
 ago_same ticks own clock a b own_is clock_is = (λ i. ago_in (own_is i) (clock_is i)) ∙ by a b
   where
-    by : (a b : Option Edge) → ago_in (option_map (told_back ticks) a) (option_map (told_back ticks) b) ≡ ago a b
+    by : (a b : Option Edge) → ago_in (option_map (finding_back ticks) a) (option_map (finding_back ticks) b) ≡ ago a b
     by None b = refl
     by (Some a) None = refl
     by (Some a) (Some b) =
@@ -243,10 +243,10 @@ pub found_edge : (c : Circuit) (ws : Waves) → 0 < period c.header → (corner 
     option_map (path_at nodes) found ≡ option_map Some (pin_path_on c ws corner (slot_of (period c.header) tick) d pin.inverted pin.target) →
     IfSome found (λ at. at.tick +ℤ pos at.wire ≡ tick) →
     IfSome found (λ at. edge_in nodes at ≡ option_map edge_pair (option_and_then (edge_of c corner at.tick) (path_known nodes at.node))) →
-    option_and_then (edge_in nodes) found ≡ option_map (told_back (3 * period c.header)) (edge_at_pin c ws corner pin d (ahead_of (period c.header) tick))
+    option_and_then (edge_in nodes) found ≡ option_map (finding_back (3 * period c.header)) (edge_at_pin c ws corner pin d (ahead_of (period c.header) tick))
 found_edge c ws some corner pin d tick from nodes None same sum edge =
-    sym (ap (option_map (told_back (3 * period c.header))) (no_edge c ws some corner pin d tick from (sym same)))
-found_edge c ws some corner pin d tick from nodes (Some at) same sum edge = edge_told_is c ws some corner pin d tick from nodes at same sum edge
+    sym (ap (option_map (finding_back (3 * period c.header))) (no_edge c ws some corner pin d tick from (sym same)))
+found_edge c ws some corner pin d tick from nodes (Some at) same sum edge = edge_finding_is c ws some corner pin d tick from nodes at same sum edge
 
 -- ---- one path after another
 

@@ -11,7 +11,7 @@ use Rattle.slack_rows.specs.declared.parameter.Word.{Word as Limit}
 use Rattle.slack_rows.specs.declared.parameter.Word.TheVariants.{Setup, Hold, High, Low, Gate, Before as GateBefore, After as GateAfter, Assert, From as StableFrom, To as StableTo}
 use Rattle.slack_rows.specs.declared.rows.Least.{Least}
 use Rattle.slack_rows.specs.Slack.{is_free}
-use Rattle.slack_rows.specs.Limit.{Case, least_told}
+use Rattle.slack_rows.specs.Limit.{Case, least_finding}
 use Rattle.slack_rows.specs.Rows.{is_free_limit, limit_with, limits_at, limits_of, row, subjects}
 use Rattle.slack_rows.specs.Known.{AreKnown, free_by, least_at}
 use Rattle.slack_rows.proofs.Stepwise.{some_same}
@@ -169,21 +169,21 @@ module _ (c : Circuit) where
       below_limits (y ∷ xs) (suc i) x at = let below = below_limits xs i x at in omega (arith, below)
 
       free_index : (i : ℕ) (q : Parameter) → slice_get limits i ≡ Some q →
-          is_none (slice_index_or least i None) ≡ is_free (least_told c cases q.subject q.word).slack
+          is_none (slice_index_or least i None) ≡ is_free (least_finding c cases q.subject q.word).slack
       free_index i q at =
           let within = below_limits limits i q at in
           let long = known.count in
           known.free i q (slice_index_or least i None) at (at_index i (omega (arith, within, long)))
 
       free_back : (place back : ℕ) (subject : Subject) (word : Limit) → StandsAt limits place subject back word →
-          is_none (least_at least place back) ≡ is_free (least_told c cases subject word).slack
+          is_none (least_at least place back) ≡ is_free (least_finding c cases subject word).slack
       free_back place back subject word has =
           let from = has.0 in
           let le : nat_le back place ≡ true = grind (arith, from) in
           ap (λ (b : Bool). is_none (cond b (slice_index_or least (place - back) None) None)) le
           ∙ free_index (place - back) has.1.0 has.1.1
-          ∙ ap (λ (s : Subject). is_free (least_told c cases s has.1.0.word).slack) has.1.2
-          ∙ ap (λ (w : Limit). is_free (least_told c cases subject w).slack) has.1.3
+          ∙ ap (λ (s : Subject). is_free (least_finding c cases s has.1.0.word).slack) has.1.2
+          ∙ ap (λ (w : Limit). is_free (least_finding c cases subject w).slack) has.1.3
 
       levels : HaveLevels limits
       levels = subst HaveLevels (sym known.are_limits) (of_all (subjects c))
@@ -197,7 +197,7 @@ module _ (c : Circuit) where
       free_place place q at = by q.word (levels place q at) (ap is_none (at_0 least place) ∙ free_index place q at)
         where
           own : Limit → Bool
-          own word = is_free (least_told c cases q.subject word).slack
+          own word = is_free (least_finding c cases q.subject word).slack
 
           by : (word : Limit) → HasLevel limits place q.subject word → is_none (least_at least place 0) ≡ own word →
               free_by word least place ≡ is_free_limit c cases (row c cases q.subject word)

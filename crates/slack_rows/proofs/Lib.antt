@@ -17,7 +17,7 @@ pub mod Changes
 pub mod Nothing
 pub mod Quieted
 pub mod Kept
-pub mod Tellings
+pub mod Findings
 pub mod Near
 pub mod Searched
 pub mod Touching

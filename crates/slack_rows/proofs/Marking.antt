@@ -28,31 +28,31 @@ use Rattle.critical_paths.specs.Region.{Region}
 use Rattle.slack_rows.specs.declared.parameter.Word.{Word as Limit}
 use Rattle.slack_rows.specs.declared.parameter.Word.TheVariants.{Gate, Before as GateBefore, After as GateAfter}
 use Rattle.slack_rows.specs.declared.slack.Slacks.{Slacks}
-use Rattle.slack_rows.specs.declared.slack.Told.{Told as Found}
+use Rattle.slack_rows.specs.declared.slack.Finding.{Finding as Found}
 use Rattle.slack_rows.specs.Window.{Window, met}
-use Rattle.slack_rows.specs.Slack.{AtLevel, Free, NoNumber, Told, is_open, least, lesser, no_launches, told_after, told_alone, told_at, told_before, told_of, two_alone, two_in}
-use Rattle.slack_rows.specs.Limit.{beside_by_arrivals, in_windows, is_beside, mark_by_arrivals, told_mark, told_never, told_outside, told_pin}
-use Rattle.slack_rows.specs.Views.{Tells, lesser_found, slack_told, told_level_by}
-use Rattle.slack_rows.specs.Held.{AreAlike, IsLevelIn, IsLevelTold, TellBeside, TellDirections, TellParts, TellSides, steps_watch}
+use Rattle.slack_rows.specs.Slack.{AtLevel, Free, NoNumber, Finding, is_open, least, lesser, no_launches, finding_after, finding_alone, finding_at, finding_before, finding_of, two_alone, two_in}
+use Rattle.slack_rows.specs.Limit.{beside_by_arrivals, in_windows, is_beside, mark_by_arrivals, finding_mark, finding_never, finding_outside, finding_pin}
+use Rattle.slack_rows.specs.Views.{Tells, lesser_found, slack_finding, finding_level_by}
+use Rattle.slack_rows.specs.Held.{AreAlike, IsLevelIn, IsLevelFinding, TellBeside, TellDirections, TellParts, TellSides, steps_watch}
 use Rattle.slack_rows.proofs.Alike.{alike_lesser, alike_none, alike_same}
 use Rattle.slack_rows.proofs.Kept.{filter_more}
 use Rattle.slack_rows.proofs.Ordered.{before_free, free_is_last}
-use Rattle.slack_rows.proofs.Tellings.{least_more, least_passing_more, tells_lesser}
+use Rattle.slack_rows.proofs.Findings.{least_more, least_passing_more, tells_lesser}
 
 -- ---- nothing more
 
 pub lesser_none : (best : Option Found) → lesser_found best None ≡ best
-lesser_none best = ap (λ (b : Bool). cond b None best) (free_is_last (slack_told best))
+lesser_none best = ap (λ (b : Bool). cond b None best) (free_is_last (slack_finding best))
 
 pub none_lesser : (found : Option Found) → lesser_found None found ≡ found
 none_lesser None = refl
-none_lesser (Some told) = ap (λ (b : Bool). cond b (Some told) None) (before_free told.slack)
+none_lesser (Some finding) = ap (λ (b : Bool). cond b (Some finding) None) (before_free finding.slack)
 
-pub tells_one : (p : ℕ) (found : Option Found) (told : Told) → Tells p found told → Tells p found (least (told ∷ []))
-tells_one p found told tells =
-    subst (λ (o : Option Found). Tells p o (least (told ∷ []))) (none_lesser found)
-    (subst (Tells p (lesser_found None found)) (sym (least_more [] told))
-    (tells_lesser p None found (told_alone Free) told refl tells))
+pub tells_one : (p : ℕ) (found : Option Found) (finding : Finding) → Tells p found finding → Tells p found (least (finding ∷ []))
+tells_one p found finding tells =
+    subst (λ (o : Option Found). Tells p o (least (finding ∷ []))) (none_lesser found)
+    (subst (Tells p (lesser_found None found)) (sym (least_more [] finding))
+    (tells_lesser p None found (finding_alone Free) finding refl tells))
 
 or_none : (a b : Bool) → (a || b) ≡ false → (a ≡ false) × (b ≡ false)
 or_none true b is = absurd (cc)
@@ -64,22 +64,22 @@ module _ (c : Circuit) (ws : Waves) (j : Instance) (marked : ℕ) where
   abbrev pub so_far : ℕ → List ℕ
   so_far n = filter (is_beside j marked) (range_with_len 0 n)
 
-  abbrev pub told_to : Limit → ℕ → Told
-  told_to limit n = least (map (λ i. told_of i Change (told_pin c ws j limit marked i)) (so_far n))
+  abbrev pub finding_to : Limit → ℕ → Finding
+  finding_to limit n = least (map (λ i. finding_of i Change (finding_pin c ws j limit marked i)) (so_far n))
 
   -- those of the places so far
   pub record MarkedTo (n : ℕ) (found : Slacks) : Type 0 where
-    pub level : Tells (period c.header) found.level (told_to Gate n)
-    pub before : list_any (beside_by_arrivals c ws j marked) (so_far n) ≡ false → Tells (period c.header) found.before (told_to GateBefore n)
-    pub after : list_any (beside_by_arrivals c ws j marked) (so_far n) ≡ false → Tells (period c.header) found.after (told_to GateAfter n)
-    pub alike : AreAlike found (told_to GateBefore n).slack (told_to GateAfter n).slack
+    pub level : Tells (period c.header) found.level (finding_to Gate n)
+    pub before : list_any (beside_by_arrivals c ws j marked) (so_far n) ≡ false → Tells (period c.header) found.before (finding_to GateBefore n)
+    pub after : list_any (beside_by_arrivals c ws j marked) (so_far n) ≡ false → Tells (period c.header) found.after (finding_to GateAfter n)
+    pub alike : AreAlike found (finding_to GateBefore n).slack (finding_to GateAfter n).slack
 
   pub marked_none : (all : Slacks) → all ≡ record { level = None; before = None; after = None } → MarkedTo 0 all
   marked_none all is =
       record {
-        level = subst (λ (o : Option Found). Tells (period c.header) o (told_to Gate 0)) (sym (ap (λ (s : Slacks). s.level) is)) refl;
-        before = λ exact. subst (λ (o : Option Found). Tells (period c.header) o (told_to GateBefore 0)) (sym (ap (λ (s : Slacks). s.before) is)) refl;
-        after = λ exact. subst (λ (o : Option Found). Tells (period c.header) o (told_to GateAfter 0)) (sym (ap (λ (s : Slacks). s.after) is)) refl;
+        level = subst (λ (o : Option Found). Tells (period c.header) o (finding_to Gate 0)) (sym (ap (λ (s : Slacks). s.level) is)) refl;
+        before = λ exact. subst (λ (o : Option Found). Tells (period c.header) o (finding_to GateBefore 0)) (sym (ap (λ (s : Slacks). s.before) is)) refl;
+        after = λ exact. subst (λ (o : Option Found). Tells (period c.header) o (finding_to GateAfter 0)) (sym (ap (λ (s : Slacks). s.after) is)) refl;
         alike = alike_none all Free Free (ap (λ (s : Slacks). s.before) is) (ap (λ (s : Slacks). s.after) is) refl refl;
       }
 
@@ -88,11 +88,11 @@ module _ (c : Circuit) (ws : Waves) (j : Instance) (marked : ℕ) where
       ap (filter (is_beside j marked)) (range_more 0 n n (zero-add n)) ∙ filter_more (is_beside j marked) (range_with_len 0 n) n
       ∙ ap (λ (x : Bool). so_far n ++ cond x (n ∷ []) []) is
 
-  told_more : (limit : Limit) (n : ℕ) (b : Bool) → is_beside j marked n ≡ b →
-      told_to limit (n + 1) ≡ cond b (lesser (told_to limit n) (told_of n Change (told_pin c ws j limit marked n))) (told_to limit n)
-  told_more limit n b is =
-      least_passing_more (λ i. told_of i Change (told_pin c ws j limit marked i)) (is_beside j marked) n
-      ∙ ap (λ (x : Bool). cond x (lesser (told_to limit n) (told_of n Change (told_pin c ws j limit marked n))) (told_to limit n)) is
+  finding_more : (limit : Limit) (n : ℕ) (b : Bool) → is_beside j marked n ≡ b →
+      finding_to limit (n + 1) ≡ cond b (lesser (finding_to limit n) (finding_of n Change (finding_pin c ws j limit marked n))) (finding_to limit n)
+  finding_more limit n b is =
+      least_passing_more (λ i. finding_of i Change (finding_pin c ws j limit marked i)) (is_beside j marked) n
+      ∙ ap (λ (x : Bool). cond x (lesser (finding_to limit n) (finding_of n Change (finding_pin c ws j limit marked n))) (finding_to limit n)) is
 
   any_parts : (n : ℕ) → is_beside j marked n ≡ true → list_any (beside_by_arrivals c ws j marked) (so_far (n + 1)) ≡ false →
       (list_any (beside_by_arrivals c ws j marked) (so_far n) ≡ false) × (beside_by_arrivals c ws j marked n ≡ false)
@@ -115,18 +115,18 @@ module _ (c : Circuit) (ws : Waves) (j : Instance) (marked : ℕ) where
   marked_more n all found next so here level_is before_is after_is = by (is_beside j marked n) refl
     where
       with_one : (limit : Limit) (best one all : Option Found) → is_beside j marked n ≡ true → all ≡ lesser_found best one →
-          Tells (period c.header) best (told_to limit n) → Tells (period c.header) one (told_of n Change (told_pin c ws j limit marked n)) →
-          Tells (period c.header) all (told_to limit (n + 1))
+          Tells (period c.header) best (finding_to limit n) → Tells (period c.header) one (finding_of n Change (finding_pin c ws j limit marked n)) →
+          Tells (period c.header) all (finding_to limit (n + 1))
       with_one limit best one all is all_is first second =
-          subst (λ (o : Option Found). Tells (period c.header) o (told_to limit (n + 1))) (sym all_is)
-          (subst (Tells (period c.header) (lesser_found best one)) (sym (told_more limit n true is))
-          (tells_lesser (period c.header) best one (told_to limit n) (told_of n Change (told_pin c ws j limit marked n)) first second))
+          subst (λ (o : Option Found). Tells (period c.header) o (finding_to limit (n + 1))) (sym all_is)
+          (subst (Tells (period c.header) (lesser_found best one)) (sym (finding_more limit n true is))
+          (tells_lesser (period c.header) best one (finding_to limit n) (finding_of n Change (finding_pin c ws j limit marked n)) first second))
 
       with_none : (limit : Limit) (best one all : Option Found) → is_beside j marked n ≡ false → all ≡ lesser_found best one → one ≡ None →
-          Tells (period c.header) best (told_to limit n) → Tells (period c.header) all (told_to limit (n + 1))
+          Tells (period c.header) best (finding_to limit n) → Tells (period c.header) all (finding_to limit (n + 1))
       with_none limit best one all is all_is none first =
-          subst (λ (o : Option Found). Tells (period c.header) o (told_to limit (n + 1))) (sym (all_is ∙ ap (lesser_found best) none ∙ lesser_none best))
-          (subst (Tells (period c.header) best) (sym (told_more limit n false is)) first)
+          subst (λ (o : Option Found). Tells (period c.header) o (finding_to limit (n + 1))) (sym (all_is ∙ ap (lesser_found best) none ∙ lesser_none best))
+          (subst (Tells (period c.header) best) (sym (finding_more limit n false is)) first)
 
       by : (b : Bool) → is_beside j marked n ≡ b → MarkedTo (n + 1) next
       by true is =
@@ -137,11 +137,11 @@ module _ (c : Circuit) (ws : Waves) (j : Instance) (marked : ℕ) where
             after = λ exact. let parts = any_parts n is exact in
                 with_one GateAfter all.after found.after next.after is after_is (so.after parts.0) (here.after is parts.1);
             alike =
-                subst (λ (told : Told). AreAlike next told.slack (told_to GateAfter (n + 1)).slack) (sym (told_more GateBefore n true is))
-                (subst (λ (told : Told). AreAlike next (lesser (told_to GateBefore n) (told_of n Change (told_pin c ws j GateBefore marked n))).slack told.slack)
-                (sym (told_more GateAfter n true is))
-                (alike_lesser all found next (told_to GateBefore n) (told_to GateAfter n) (told_of n Change (told_pin c ws j GateBefore marked n))
-                (told_of n Change (told_pin c ws j GateAfter marked n)) so.alike (here.alike is) before_is after_is));
+                subst (λ (finding : Finding). AreAlike next finding.slack (finding_to GateAfter (n + 1)).slack) (sym (finding_more GateBefore n true is))
+                (subst (λ (finding : Finding). AreAlike next (lesser (finding_to GateBefore n) (finding_of n Change (finding_pin c ws j GateBefore marked n))).slack finding.slack)
+                (sym (finding_more GateAfter n true is))
+                (alike_lesser all found next (finding_to GateBefore n) (finding_to GateAfter n) (finding_of n Change (finding_pin c ws j GateBefore marked n))
+                (finding_of n Change (finding_pin c ws j GateAfter marked n)) so.alike (here.alike is) before_is after_is));
           }
       by false is =
           let none = here.none is in
@@ -150,20 +150,20 @@ module _ (c : Circuit) (ws : Waves) (j : Instance) (marked : ℕ) where
             before = λ exact. with_none GateBefore all.before found.before next.before is before_is none.1 (so.before (any_same n is exact));
             after = λ exact. with_none GateAfter all.after found.after next.after is after_is none.2 (so.after (any_same n is exact));
             alike =
-                subst (λ (told : Told). AreAlike next told.slack (told_to GateAfter (n + 1)).slack) (sym (told_more GateBefore n false is))
-                (subst (λ (told : Told). AreAlike next (told_to GateBefore n).slack told.slack) (sym (told_more GateAfter n false is))
-                (alike_same all next (told_to GateBefore n).slack (told_to GateAfter n).slack so.alike
+                subst (λ (finding : Finding). AreAlike next finding.slack (finding_to GateAfter (n + 1)).slack) (sym (finding_more GateBefore n false is))
+                (subst (λ (finding : Finding). AreAlike next (finding_to GateBefore n).slack finding.slack) (sym (finding_more GateAfter n false is))
+                (alike_same all next (finding_to GateBefore n).slack (finding_to GateAfter n).slack so.alike
                 (before_is ∙ ap (lesser_found all.before) none.1 ∙ lesser_none all.before)
                 (after_is ∙ ap (lesser_found all.after) none.2 ∙ lesser_none all.after)));
           }
 
   -- those of all places
   pub marked_all : (n : ℕ) (found : Slacks) → n ≡ length j.pins → MarkedTo n found →
-      (Tells (period c.header) found.level (told_mark c ws j Gate (Some marked)))
-      × (TellSides (period c.header) (mark_by_arrivals c ws j (Some marked)) (told_mark c ws j GateBefore (Some marked))
-      (told_mark c ws j GateAfter (Some marked)) found)
-  marked_all n found all told =
-      let at : MarkedTo (length j.pins) found = subst (λ (k : ℕ). MarkedTo k found) all told in
+      (Tells (period c.header) found.level (finding_mark c ws j Gate (Some marked)))
+      × (TellSides (period c.header) (mark_by_arrivals c ws j (Some marked)) (finding_mark c ws j GateBefore (Some marked))
+      (finding_mark c ws j GateAfter (Some marked)) found)
+  marked_all n found all finding =
+      let at : MarkedTo (length j.pins) found = subst (λ (k : ℕ). MarkedTo k found) all finding in
       (at.level, record { before = at.before; after = at.after; alike = at.alike })
 
 -- ---- directions of a net's steps
@@ -186,30 +186,30 @@ module _ (p : ℕ) (folds wide : Folds) where
   abbrev TellSteps : Direction → Slacks → Type 0
   TellSteps d found = TellParts p no_launches (λ w r. false) 0 d (steps_watch p folds wide d) found
 
-  abbrev never : Direction → Told
-  never d = told_of 0 d (told_never p (steps_watch p folds wide d))
+  abbrev never : Direction → Finding
+  never d = finding_of 0 d (finding_never p (steps_watch p folds wide d))
 
-  abbrev before : Direction → Told
-  before d = told_of 0 d (told_before p no_launches (in_windows (steps_watch p folds wide d)))
+  abbrev before : Direction → Finding
+  before d = finding_of 0 d (finding_before p no_launches (in_windows (steps_watch p folds wide d)))
 
-  abbrev after : Direction → Told
-  after d = told_of 0 d (told_after p no_launches (in_windows (steps_watch p folds wide d)))
+  abbrev after : Direction → Finding
+  after d = finding_of 0 d (finding_after p no_launches (in_windows (steps_watch p folds wide d)))
 
   pub no_direction : (found : Slacks) → found ≡ record { level = None; before = None; after = None } → TellDirections p folds wide [] found
   no_direction found is =
       record {
-        level = subst (λ (o : Option Found). Tells p o (told_alone Free)) (sym (ap (λ (s : Slacks). s.level) is)) refl;
-        before = subst (λ (o : Option Found). Tells p o (told_alone Free)) (sym (ap (λ (s : Slacks). s.before) is)) refl;
-        after = subst (λ (o : Option Found). Tells p o (told_alone Free)) (sym (ap (λ (s : Slacks). s.after) is)) refl;
+        level = subst (λ (o : Option Found). Tells p o (finding_alone Free)) (sym (ap (λ (s : Slacks). s.level) is)) refl;
+        before = subst (λ (o : Option Found). Tells p o (finding_alone Free)) (sym (ap (λ (s : Slacks). s.before) is)) refl;
+        after = subst (λ (o : Option Found). Tells p o (finding_alone Free)) (sym (ap (λ (s : Slacks). s.after) is)) refl;
       }
 
   pub one_direction : (d : Direction) (found : Slacks) → TellSteps d found → TellDirections p folds wide (d ∷ []) found
-  one_direction d found told =
+  one_direction d found finding =
       let exact = no_two_in p (steps_watch p folds wide d).changes (steps_watch p folds wide d).windows in
       record {
-        level = tells_one p found.level (never d) told.level;
-        before = tells_one p found.before (before d) (told.before exact);
-        after = tells_one p found.after (after d) (told.after exact);
+        level = tells_one p found.level (never d) finding.level;
+        before = tells_one p found.before (before d) (finding.before exact);
+        after = tells_one p found.after (after d) (finding.after exact);
       }
 
   pub two_directions : (d e : Direction) (first second found : Slacks) → TellSteps d first → TellSteps e second →
@@ -224,7 +224,7 @@ module _ (p : ℕ) (folds wide : Folds) where
         after = both first.after second.after found.after (after d) (after e) after_is (one.after exact) (other.after exact_other);
       }
     where
-      both : (a b all : Option Found) (s t : Told) → all ≡ lesser_found a b → Tells p a s → Tells p b t → Tells p all (least (s ∷ t ∷ []))
+      both : (a b all : Option Found) (s t : Finding) → all ≡ lesser_found a b → Tells p a s → Tells p b t → Tells p all (least (s ∷ t ∷ []))
       both a b all s t all_is tells_a tells_b =
           subst (λ (o : Option Found). Tells p o (least (s ∷ t ∷ []))) (sym all_is)
           (subst (Tells p (lesser_found a b)) (sym (least_more (s ∷ []) t))
@@ -243,21 +243,21 @@ lets_are kind rest cells is = λ i t. rest_is (closes_of kind) rest (read cells 
 
 -- ---- a level beside the steps
 
-pub level_told : (p : ℕ) (high : ℕ → Bool) (found : Option Reason) (outside : Bool) (excess : Option ℕ) → IsLevelTold high found outside excess →
-    Tells p (told_level_by found) (told_outside outside excess)
-level_told p high found true excess none = subst (λ (o : Option Reason). Tells p (told_level_by o) (told_alone Free)) (sym none) refl
-level_told p high found false None none = subst (λ (o : Option Reason). Tells p (told_level_by o) (told_alone Free)) (sym none) refl
-level_told p high found false (Some slot) is =
-    subst (λ (o : Option Reason). Tells p (told_level_by o) (told_at NoNumber (AtLevel slot))) (sym is) record { is = refl; near = tt }
+pub level_finding : (p : ℕ) (high : ℕ → Bool) (found : Option Reason) (outside : Bool) (excess : Option ℕ) → IsLevelFinding high found outside excess →
+    Tells p (finding_level_by found) (finding_outside outside excess)
+level_finding p high found true excess none = subst (λ (o : Option Reason). Tells p (finding_level_by o) (finding_alone Free)) (sym none) refl
+level_finding p high found false None none = subst (λ (o : Option Reason). Tells p (finding_level_by o) (finding_alone Free)) (sym none) refl
+level_finding p high found false (Some slot) is =
+    subst (λ (o : Option Reason). Tells p (finding_level_by o) (finding_at NoNumber (AtLevel slot))) (sym is) record { is = refl; near = tt }
 
 -- a level that is not permitted
 pub level_is : (high : ℕ → Bool) (found : Option Reason) (outside : Bool) (excess : Option ℕ) (slot : ℕ) → outside ≡ false →
-    excess ≡ Some slot → found ≡ Some (Level (high slot) slot) → IsLevelTold high found outside excess
+    excess ≡ Some slot → found ≡ Some (Level (high slot) slot) → IsLevelFinding high found outside excess
 level_is high found outside excess slot none is level =
-    subst (λ (b : Bool). IsLevelTold high found b excess) (sym none) (subst (IsLevelIn high found) (sym is) level)
+    subst (λ (b : Bool). IsLevelFinding high found b excess) (sym none) (subst (IsLevelIn high found) (sym is) level)
 
-pub with_outside : (p : ℕ) (best found all : Option Found) (tellings : List Told) (told : Told) → all ≡ lesser_found best found →
-    Tells p best (least tellings) → Tells p found told → Tells p all (least (tellings ++ told ∷ []))
-with_outside p best found all tellings told is first second =
-    subst (λ (o : Option Found). Tells p o (least (tellings ++ told ∷ []))) (sym is)
-    (subst (Tells p (lesser_found best found)) (sym (least_more tellings told)) (tells_lesser p best found (least tellings) told first second))
+pub with_outside : (p : ℕ) (best found all : Option Found) (findings : List Finding) (finding : Finding) → all ≡ lesser_found best found →
+    Tells p best (least findings) → Tells p found finding → Tells p all (least (findings ++ finding ∷ []))
+with_outside p best found all findings finding is first second =
+    subst (λ (o : Option Found). Tells p o (least (findings ++ finding ∷ []))) (sym is)
+    (subst (Tells p (lesser_found best found)) (sym (least_more findings finding)) (tells_lesser p best found (least findings) finding first second))

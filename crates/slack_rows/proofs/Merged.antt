@@ -10,12 +10,12 @@ use Rattle.slack_rows.specs.declared.slack.Reason.{Reason}
 use Rattle.slack_rows.specs.declared.slack.Reason.TheVariants.{Data, DataLoop, Clock, High as StaysHigh, Mark, Still, Level}
 use Rattle.slack_rows.specs.declared.slack.Slack.{Slack as Number}
 use Rattle.slack_rows.specs.declared.slack.Slack.TheVariants.{NoNumber as NumberOfNone, Ticks as NumberOfTicks, Way as NumberOfWay}
-use Rattle.slack_rows.specs.declared.slack.Told.{Told as Found}
+use Rattle.slack_rows.specs.declared.slack.Finding.{Finding as Found}
 use Rattle.slack_rows.specs.declared.table.Shape.{Shape}
 use Rattle.critical_paths.specs.Tick.{slot_of}
 use Rattle.slack_rows.specs.Rows.{are_one_region, have_no_number, opens_after, same_region}
 use Rattle.slack_rows.specs.Slack.{Place, Nowhere, At, Arrived, InPulse, AtLevel, Slack, Free, NoNumber, Ticks, Way, is_broken}
-use Rattle.slack_rows.specs.Views.{IsByRegion, IsNear, ahead_of, are_close, place_by, place_of, place_without, region_in, region_told, shape_in, told_by_found, window_in}
+use Rattle.slack_rows.specs.Views.{IsByRegion, IsNear, ahead_of, are_close, place_by, place_of, place_without, region_in, region_finding, shape_in, finding_by_found, window_in}
 use Rattle.slack_rows.proofs.Launching.{mod_ahead}
 use Rattle.slack_rows.proofs.Lying.{ahead_is}
 
@@ -59,7 +59,7 @@ module _ (p : ℕ) (found : Found) where
   without Still = refl
   without (Level high slot) = refl
 
-  by_none : (by : By) → region_told by ≡ None → is_at (place_by p found by) ≡ false
+  by_none : (by : By) → region_finding by ≡ None → is_at (place_by p found by) ≡ false
   unfolding is_at
   by_none (ByRegion region) none = absurd (cc)
   by_none (ByWay node) none = refl
@@ -69,27 +69,27 @@ module _ (p : ℕ) (found : Found) where
   by_none Repeated none = refl
   by_none Nothing none = refl
 
-  not_at : (slack : Number) → region_told found.by ≡ None → is_at (place_of p found slack) ≡ false
+  not_at : (slack : Number) → region_finding found.by ≡ None → is_at (place_of p found slack) ≡ false
   unfolding is_at
   not_at (NumberOfNone reason) none = without reason
   not_at (NumberOfTicks n) none = by_none found.by none
   not_at (NumberOfWay n) none = refl
 
-pub none_before : (p : ℕ) (before after : Found) → region_told before.by ≡ None →
-    false ≡ are_one_region p (told_by_found p before).place (told_by_found p after).place
+pub none_before : (p : ℕ) (before after : Found) → region_finding before.by ≡ None →
+    false ≡ are_one_region p (finding_by_found p before).place (finding_by_found p after).place
 none_before p before after none =
-    not_first p (told_by_found p before).place (told_by_found p after).place
+    not_first p (finding_by_found p before).place (finding_by_found p after).place
     (not_at p before before.slack none)
 
-pub none_after : (p : ℕ) (before after : Found) → region_told after.by ≡ None →
-    false ≡ are_one_region p (told_by_found p before).place (told_by_found p after).place
+pub none_after : (p : ℕ) (before after : Found) → region_finding after.by ≡ None →
+    false ≡ are_one_region p (finding_by_found p before).place (finding_by_found p after).place
 none_after p before after none =
-    not_second p (told_by_found p before).place (told_by_found p after).place
+    not_second p (finding_by_found p before).place (finding_by_found p after).place
     (not_at p after after.slack none)
 
 -- ---- by two
 
-by_is : (by : By) (r : Ticked) → region_told by ≡ Some r → by ≡ ByRegion r
+by_is : (by : By) (r : Ticked) → region_finding by ≡ Some r → by ≡ ByRegion r
 by_is (ByRegion region) r is = let same : region ≡ r = cc in ap ByRegion same
 by_is (ByWay node) r is = absurd (cc)
 by_is Quiet r is = absurd (cc)
@@ -98,11 +98,11 @@ by_is Swallowed r is = absurd (cc)
 by_is Repeated r is = absurd (cc)
 by_is Nothing r is = absurd (cc)
 
-module _ (p : ℕ) (found : Found) (r : Ticked) (is : region_told found.by ≡ Some r) (near : IsNear p found found.by) where
+module _ (p : ℕ) (found : Found) (r : Ticked) (is : region_finding found.by ≡ Some r) (near : IsNear p found found.by) where
   by_region : IsByRegion p found r
   by_region = subst (IsNear p found) (by_is found.by r is) near
 
-  place_is : (told_by_found p found).place ≡ At (window_in p found.window) (region_in p r)
+  place_is : (finding_by_found p found).place ≡ At (window_in p found.window) (region_in p r)
   place_is =
       let number = by_region.number in
       ap (place_of p found) number.1 ∙ ap (place_by p found) (by_is found.by r is)
@@ -140,7 +140,7 @@ order_same a b x y a_is b_is = by (int_le x y) (int_le a b) refl refl
         absurd (omega (arith, ints, at, past, a_is, b_is))
 
 module _ (p : ℕ) (some : 0 < p) (before after : Found) (one other : Ticked)
-    (one_is : region_told before.by ≡ Some one) (other_is : region_told after.by ≡ Some other)
+    (one_is : region_finding before.by ≡ Some one) (other_is : region_finding after.by ≡ Some other)
     (near : IsNear p before before.by) (near_after : IsNear p after after.by) where
   first : IsByRegion p before one
   first = by_region p before one one_is near
@@ -148,8 +148,8 @@ module _ (p : ℕ) (some : 0 < p) (before after : Found) (one other : Ticked)
   second : IsByRegion p after other
   second = by_region p after other other_is near_after
 
-  abbrev told_once : Bool
-  told_once = are_one_region p (told_by_found p before).place (told_by_found p after).place
+  abbrev counted_once : Bool
+  counted_once = are_one_region p (finding_by_found p before).place (finding_by_found p after).place
 
   abbrev in_order : Bool
   in_order = int_le (before.window.from -ℤ one.first) (after.window.from -ℤ other.first)
@@ -164,8 +164,8 @@ module _ (p : ℕ) (some : 0 < p) (before after : Found) (one other : Ticked)
   same = same_region p (region_in p one) (region_in p other)
 
   -- by the order of the windows, and whether the regions are the same
-  told_is : told_once ≡ (in_order && same)
-  told_is =
+  finding_is : counted_once ≡ (in_order && same)
+  finding_is =
       (λ i. are_one_region p (place_is p before one one_is near i)
       (place_is p after other other_is near_after i))
       ∙ sym (λ i. order_same _ _ (before.window.from -ℤ one.first)
@@ -180,14 +180,14 @@ module _ (p : ℕ) (some : 0 < p) (before after : Found) (one other : Ticked)
           let begin = ahead_is p r.first is.first in
           omega (arith, ints, from, begin)
 
-  pub not_close : are_close before.window one ≡ false → false ≡ told_once
+  pub not_close : are_close before.window one ≡ false → false ≡ counted_once
   not_close far = absurd (let near = first.near in cc)
 
-  pub not_close_after : are_close after.window other ≡ false → false ≡ told_once
+  pub not_close_after : are_close after.window other ≡ false → false ≡ counted_once
   not_close_after far = absurd (let near = second.near in cc)
 
-  pub out_of_order : in_order ≡ false → false ≡ told_once
-  out_of_order order = left_off in_order same order ∙ sym told_is
+  pub out_of_order : in_order ≡ false → false ≡ counted_once
+  out_of_order order = left_off in_order same order ∙ sym finding_is
 
   begin : pos (ahead_of p one.first) ≡ pos (3 * p) +ℤ one.first
   begin = ahead_is p one.first first.first
@@ -203,9 +203,9 @@ module _ (p : ℕ) (some : 0 < p) (before after : Found) (one other : Ticked)
 
   -- by whether they are of one shape
   pub one_or_not : in_order ≡ true → (b : Bool) → (b ≡ true → shape_in p one ≡ shape_in p other) →
-      (b ≡ false → shape_in p one ≡ shape_in p other → ⊥) → b ≡ told_once
+      (b ≡ false → shape_in p one ≡ shape_in p other → ⊥) → b ≡ counted_once
   one_or_not order true alike differ =
-      both_same in_order same order same_is ∙ sym told_is
+      both_same in_order same order same_is ∙ sym finding_is
     where
       same_is : same ≡ true
       same_is =
@@ -219,7 +219,7 @@ module _ (p : ℕ) (some : 0 < p) (before after : Found) (one other : Ticked)
           (ahead_of p other.last + ahead_of p one.first)
           (omega (arith, ints, begin, begin_other, end, end_other, long))))
   one_or_not order false alike differ =
-      right_off in_order same (by same_slots refl same_longs refl) ∙ sym told_is
+      right_off in_order same (by same_slots refl same_longs refl) ∙ sym finding_is
     where
       slots_are : same_slots ≡ true → slot_of p one.first ≡ slot_of p other.first
       slots_are slots =

@@ -31,9 +31,9 @@ use Rattle.critical_paths.specs.Event.{moves}
 use Rattle.critical_paths.proofs.Moving.{moves_normal, normal_moves}
 use Rattle.critical_paths.proofs.Runs.{not_true}
 use Rattle.slack_rows.specs.declared.parameter.Word.TheVariants.{Assert, From as StableFrom, To as StableTo}
-use Rattle.slack_rows.specs.Slack.{Free, told_alone}
+use Rattle.slack_rows.specs.Slack.{Free, finding_alone}
 use Rattle.slack_rows.specs.Watch.{directions_of, permitted}
-use Rattle.slack_rows.specs.Limit.{told_held, told_in, told_net}
+use Rattle.slack_rows.specs.Limit.{finding_held, finding_in, finding_net}
 use Rattle.slack_rows.specs.Laws.{AreWaves, IsBroken, NetsBreakWithFaults, SomeOf}
 use Rattle.slack_rows.proofs.Checkers.{folds_repeat}
 use Rattle.slack_rows.proofs.Excess.{IsMetBy, exceeded_excess, excess_breaks, excess_exceeded, outside, step_met}
@@ -178,8 +178,8 @@ module _ (c : Circuit) (ws : Waves) (i : ℕ) (are : AreWaves c ws) (below : i <
 
   held_breaks : (net : Net) (b : Bool) → is_held net ≡ b →
       (is_some (fault_if_held b c ws i net) ≡ true)
-      ↔ (IsBroken (cond b (told_net c ws i net Assert) (told_alone Free))
-      ⊎ (IsBroken (cond b (told_net c ws i net StableFrom) (told_alone Free)) ⊎ IsBroken (cond b (told_net c ws i net StableTo) (told_alone Free))))
+      ↔ (IsBroken (cond b (finding_net c ws i net Assert) (finding_alone Free))
+      ⊎ (IsBroken (cond b (finding_net c ws i net StableFrom) (finding_alone Free)) ⊎ IsBroken (cond b (finding_net c ws i net StableTo) (finding_alone Free))))
   unfolding assertion_fault
   held_breaks net false is = (
     λ none. absurd (cc),
@@ -205,7 +205,7 @@ module _ (c : Circuit) (ws : Waves) (i : ℕ) (are : AreWaves c ws) (below : i <
 
   there : (o : Option Net) →
       (is_some (fault_of_net c ws i o) ≡ true)
-      ↔ (IsBroken (told_held c ws i Assert o) ⊎ (IsBroken (told_held c ws i StableFrom o) ⊎ IsBroken (told_held c ws i StableTo o)))
+      ↔ (IsBroken (finding_held c ws i Assert o) ⊎ (IsBroken (finding_held c ws i StableFrom o) ⊎ IsBroken (finding_held c ws i StableTo o)))
   there None = (
     λ none. absurd (cc),
     λ broken. elim broken [
@@ -216,5 +216,5 @@ module _ (c : Circuit) (ws : Waves) (i : ℕ) (are : AreWaves c ws) (below : i <
   there (Some net) = held_breaks net (is_held net) refl
 
 pub nets_break_with_faults : NetsBreakWithFaults
-unfolding net_fault told_in
+unfolding net_fault finding_in
 nets_break_with_faults c ws i are below = there c ws i are below (slice_get c.nets i)

@@ -11,10 +11,10 @@ use Rattle.slack_rows.specs.declared.parameter.Parameter.{Parameter}
 use Rattle.slack_rows.specs.declared.parameter.Subject.{Subject}
 use Rattle.slack_rows.specs.declared.parameter.Word.{Word as Limit}
 use Rattle.slack_rows.specs.declared.rows.Least.{Least}
-use Rattle.slack_rows.specs.Slack.{Slack, Free, Ticks, Way, NoNumber, Told, is_broken, is_free}
-use Rattle.slack_rows.specs.Limit.{Case, least_told}
+use Rattle.slack_rows.specs.Slack.{Slack, Free, Ticks, Way, NoNumber, Finding, is_broken, is_free}
+use Rattle.slack_rows.specs.Limit.{Case, least_finding}
 use Rattle.slack_rows.specs.Rows.{Row, all_limits, all_rows, are_one_region, broken_count, first_with, have_no_number, is_own_row, is_same_pin, is_reported, is_reported_by, limit_with, limits_at, limits_of, own_rows, partner, row, slack_of, some_broken, subjects, reported_once}
-use Rattle.slack_rows.specs.Known.{AreKnown, BreaksBoth, IsKnown, breaks, in_one_case, is_sure, least_at, may_be_two, told_least}
+use Rattle.slack_rows.specs.Known.{AreKnown, BreaksBoth, IsKnown, breaks, in_one_case, is_sure, least_at, may_be_two, finding_least}
 use Rattle.slack_rows.specs.Views.{Tells}
 use Rattle.slack_rows.proofs.Blocks.{after_it, before_it, follows}
 use Rattle.slack_rows.proofs.Gathering.{filter_both, filter_through}
@@ -66,7 +66,7 @@ index_is xs i x at = some_same (slice_index_or xs i None) x (slice_get xs i) (re
 module _ (c : Circuit) (cases : List Case) (limits : List Parameter) (least : List (Option Least)) (numbers : List ℕ) (sets : List (ℕ × ℕ))
     (known : AreKnown c cases limits least numbers sets) where
   abbrev is_broken_limit : Parameter → Bool
-  is_broken_limit q = is_broken (least_told c cases q.subject q.word).slack
+  is_broken_limit q = is_broken (least_finding c cases q.subject q.word).slack
 
   first_back : (i : ℕ) → 1 ≤ i → least_at least i 1 ≡ slice_index_or least (i - 1) None
   first_back i from = at_back least i 1 from
@@ -81,9 +81,9 @@ module _ (c : Circuit) (cases : List Case) (limits : List Parameter) (least : Li
       BreaksBoth c cases least i q (Some before)
   pair_at i q at before is = subst (BreaksBoth c cases least i q) is (known.both i q at)
 
-  to_told : (i : ℕ) (q : Parameter) (found : Option Least) → slice_get limits i ≡ Some q → slice_get least i ≡ Some found →
+  to_finding : (i : ℕ) (q : Parameter) (found : Option Least) → slice_get limits i ≡ Some q → slice_get least i ≡ Some found →
       breaks found ≡ true → list_any is_broken_limit limits ≡ true
-  to_told i q found at here broken = by (may_be_two q.word) refl (partner q.word) refl
+  to_finding i q found at here broken = by (may_be_two q.word) refl (partner q.word) refl
     where
       own : breaks (least_at least i 0) ≡ true
       own = ap breaks (own_back i ∙ index_is least i found here) ∙ broken
@@ -150,7 +150,7 @@ module _ (c : Circuit) (cases : List Case) (limits : List Parameter) (least : Li
       let below = within_list least found.i found.item found.at in
       let long = known.count in
       let q = item_at limits found.i (omega (arith, below, long)) in
-      to_told found.i q.0 found.item q.1 found.at found.passes))
+      to_finding found.i q.0 found.item q.1 found.at found.passes))
       (λ any. (let found = some_at is_broken_limit limits any in to_found found.i found.item found.at found.passes))
       ∙ ap (list_any is_broken_limit) known.are_limits
 
@@ -165,17 +165,17 @@ module _ (c : Circuit) (cases : List Case) (limits : List Parameter) (least : Li
       known.each i q (slice_index_or least i None) at (read_at least i None (omega (arith, below, long))) sure
 
   is_known_limit : (q : Parameter) (found : Option Least) → IsKnown c cases sets q found →
-      Tells (period c.header) (told_least found) (least_told c cases q.subject q.word)
+      Tells (period c.header) (finding_least found) (least_finding c cases q.subject q.word)
   is_known_limit q None is = is
-  is_known_limit q (Some found) is = is.told
+  is_known_limit q (Some found) is = is.finding
 
   -- what nothing can break is not told with another one
-  free_first : (same : Bool) (a t : Told) → a.slack ≡ Free → reported_once (period c.header) same a t ≡ false
+  free_first : (same : Bool) (a t : Finding) → a.slack ≡ Free → reported_once (period c.header) same a t ≡ false
   free_first same a t free =
       (λ i. have_no_number (free i) t.slack || (is_broken (free i) && (is_broken t.slack && (same && (is_same_pin a t
       && are_one_region (period c.header) a.place t.place)))))
 
-  free_second : (same : Bool) (a t : Told) → t.slack ≡ Free → reported_once (period c.header) same a t ≡ false
+  free_second : (same : Bool) (a t : Finding) → t.slack ≡ Free → reported_once (period c.header) same a t ≡ false
   free_second same a t free =
       (λ i. have_no_number a.slack (free i) || (is_broken a.slack && (is_broken (free i) && (same && (is_same_pin a t
       && are_one_region (period c.header) a.place t.place)))))
@@ -193,7 +193,7 @@ module _ (c : Circuit) (cases : List Case) (limits : List Parameter) (least : Li
 
   -- by which case they are told
   one_case : (q r : Parameter) (found other : Option Least) → IsKnown c cases sets q found → IsKnown c cases sets r other →
-      (a t : Told) → Tells (period c.header) (told_least found) a → Tells (period c.header) (told_least other) t →
+      (a t : Finding) → Tells (period c.header) (finding_least found) a → Tells (period c.header) (finding_least other) t →
       reported_once (period c.header) (in_one_case found other) a t
       ≡ reported_once (period c.header) (first_with c cases q.subject q.word == first_with c cases r.subject r.word) a t
   one_case q r (Some found) (Some other) is is_other a t tells tells_other =
@@ -203,15 +203,15 @@ module _ (c : Circuit) (cases : List Case) (limits : List Parameter) (least : Li
   one_case q r (Some found) None is is_other a t tells tells_other =
       free_second false a t tells_other ∙ sym (free_second (first_with c cases q.subject q.word == first_with c cases r.subject r.word) a t tells_other)
 
-  pub told_at : (i : ℕ) (q : Parameter) (told : Bool) → slice_get limits i ≡ Some q → is_sure c cases q.subject ≡ true →
+  pub finding_at : (i : ℕ) (q : Parameter) (finding : Bool) → slice_get limits i ≡ Some q → is_sure c cases q.subject ≡ true →
       is_some (partner q.word) ≡ true →
-      ((a t : Told) → Tells (period c.header) (told_least (least_at least i 1)) a →
-      Tells (period c.header) (told_least (least_at least i 0)) t →
-      told ≡ reported_once (period c.header) (in_one_case (least_at least i 1) (least_at least i 0)) a t) →
-      told ≡ is_reported c cases (row c cases q.subject q.word)
-  told_at i q told at sure second is = by (partner q.word) refl second
+      ((a t : Finding) → Tells (period c.header) (finding_least (least_at least i 1)) a →
+      Tells (period c.header) (finding_least (least_at least i 0)) t →
+      finding ≡ reported_once (period c.header) (in_one_case (least_at least i 1) (least_at least i 0)) a t) →
+      finding ≡ is_reported c cases (row c cases q.subject q.word)
+  finding_at i q finding at sure second is = by (partner q.word) refl second
     where
-      by : (o : Option Limit) → partner q.word ≡ o → is_some o ≡ true → told ≡ is_reported_by c cases (row c cases q.subject q.word) o
+      by : (o : Option Limit) → partner q.word ≡ o → is_some o ≡ true → finding ≡ is_reported_by c cases (row c cases q.subject q.word) o
       by None none some = absurd (cc)
       by (Some before) partner_is some =
           let stands = before_it c limits known.are_limits i q at before partner_is in
@@ -222,9 +222,9 @@ module _ (c : Circuit) (cases : List Case) (limits : List Parameter) (least : Li
           subst (IsKnown c cases sets q) (sym (own_back i)) (tells_at i q at sure) in
           let first = is_known_limit (limit_with c q.subject before) (least_at least i 1) known_first in
           let own = is_known_limit q (least_at least i 0) known_own in
-          is (least_told c cases q.subject before) (least_told c cases q.subject q.word) first own
+          is (least_finding c cases q.subject before) (least_finding c cases q.subject q.word) first own
           ∙ one_case (limit_with c q.subject before) q (least_at least i 1) (least_at least i 0) known_first known_own
-          (least_told c cases q.subject before) (least_told c cases q.subject q.word) first own
+          (least_finding c cases q.subject before) (least_finding c cases q.subject q.word) first own
 
   pub not_second : (q : Parameter) → is_some (partner q.word) ≡ false → false ≡ is_reported c cases (row c cases q.subject q.word)
   not_second q none = by (partner q.word) none
@@ -234,13 +234,13 @@ module _ (c : Circuit) (cases : List Case) (limits : List Parameter) (least : Li
       by (Some before) none = absurd (cc)
 
   pub own_broken : (i : ℕ) (q : Parameter) → slice_get limits i ≡ Some q → is_sure c cases q.subject ≡ true →
-      breaks (least_at least i 0) ≡ is_broken (least_told c cases q.subject q.word).slack
+      breaks (least_at least i 0) ≡ is_broken (least_finding c cases q.subject q.word).slack
   own_broken i q at sure =
       ap breaks (own_back i) ∙ by (slice_index_or least i None) (tells_at i q at sure)
     where
-      by : (found : Option Least) → IsKnown c cases sets q found → breaks found ≡ is_broken (least_told c cases q.subject q.word).slack
+      by : (found : Option Least) → IsKnown c cases sets q found → breaks found ≡ is_broken (least_finding c cases q.subject q.word).slack
       by None is = ap is_broken (sym is)
-      by (Some found) is = let told = is.told in ap (λ (t : Told). is_broken t.slack) (sym told.is)
+      by (Some found) is = let finding = is.finding in ap (λ (t : Finding). is_broken t.slack) (sym finding.is)
 
   -- ---- counted
 
@@ -287,11 +287,11 @@ module _ (c : Circuit) (cases : List Case) where
   and_swap false true = refl
   and_swap false false = refl
 
-  own_by : (s : Slack) (told : Bool) → ((not (is_free s) && not told) && is_broken s) ≡ (is_broken s && not told)
-  own_by Free told = refl
-  own_by (Ticks n) told = and_swap (not told) (is_broken (Ticks n))
-  own_by (Way n) told = and_swap (not told) true
-  own_by NoNumber told = and_swap (not told) true
+  own_by : (s : Slack) (finding : Bool) → ((not (is_free s) && not finding) && is_broken s) ≡ (is_broken s && not finding)
+  own_by Free finding = refl
+  own_by (Ticks n) finding = and_swap (not finding) (is_broken (Ticks n))
+  own_by (Way n) finding = and_swap (not finding) true
+  own_by NoNumber finding = and_swap (not finding) true
 
   abbrev has_row : Row → Bool
   has_row r = not (is_free (slack_of r)) && not (is_reported c cases r)

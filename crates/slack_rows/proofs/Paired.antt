@@ -178,8 +178,8 @@ module _ (p : ℕ) (ev : Events) (cyclic : IsCyclic p ev) (long : 2 ≤ p) (some
       }
 
   -- by what arrives, or the regions
-  pub told_one : BreakOne (before_window p ev launches w).slack (after_window p ev launches w).slack
-  told_one =
+  pub finding_one : BreakOne (before_window p ev launches w).slack (after_window p ev launches w).slack
+  finding_one =
       let (z, none, below) = gap in
       record {
         before = before (two_launches launches w (met p ev w));

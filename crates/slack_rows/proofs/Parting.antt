@@ -34,18 +34,18 @@ use Rattle.critical_paths.specs.Launch.{Edge, ago, edge_of_pin}
 use Rattle.critical_paths.specs.Arrival.{arrivals_of}
 use Rattle.slack_rows.specs.declared.held.Held.{Held}
 use Rattle.slack_rows.specs.declared.slack.Slacks.{Slacks}
-use Rattle.slack_rows.specs.declared.slack.Told.{Told as Found}
+use Rattle.slack_rows.specs.declared.slack.Finding.{Finding as Found}
 use Rattle.slack_rows.specs.Window.{Window, about, ahead, extent_of}
-use Rattle.slack_rows.specs.Slack.{Free, Launches, NoNumber, Told, Watch, after_window, before_window, is_met, least, told_after, told_alone, told_before, told_by, told_of, two_in}
+use Rattle.slack_rows.specs.Slack.{Free, Launches, NoNumber, Finding, Watch, after_window, before_window, is_met, least, finding_after, finding_alone, finding_before, finding_by, finding_of, two_in}
 use Rattle.slack_rows.specs.Watch.{opens}
 use Rattle.slack_rows.specs.Launched.{are_two, checker_launches, gate_launches, launches_at, opening, side_by, two_at_ends, two_by}
-use Rattle.slack_rows.specs.Limit.{in_windows, is_beside, is_by_arrivals, least_still, pin_folds, still_after, still_before, told_never, told_still}
-use Rattle.slack_rows.specs.Views.{IsTold, Tells, checks_edges}
+use Rattle.slack_rows.specs.Limit.{in_windows, is_beside, is_by_arrivals, least_still, pin_folds, still_after, still_before, finding_never, finding_still}
+use Rattle.slack_rows.specs.Views.{IsFinding, Tells, checks_edges}
 use Rattle.slack_rows.specs.Held.{AreAlike, TellBeside, TellParts, TellWatch, TellWindows, launches_of, two_of, watch_at}
 use Rattle.slack_rows.proofs.Checkers.{edges_short}
 use Rattle.slack_rows.proofs.Nothing.{nothing_from}
-use Rattle.slack_rows.proofs.Alike.{alike_none, alike_told}
-use Rattle.slack_rows.proofs.Watching.{all_here, alike_ways, or_parts, same_ways, some_where_all, tells_free, told_always, told_free, told_unmet, told_windows}
+use Rattle.slack_rows.proofs.Alike.{alike_none, alike_finding}
+use Rattle.slack_rows.proofs.Watching.{all_here, alike_ways, or_parts, same_ways, some_where_all, tells_free, finding_always, finding_free, finding_unmet, finding_windows}
 use Rattle.slack_rows.proofs.Watched.{in_some_slot}
 
 and_none : (a : Bool) → (a && false) ≡ false
@@ -73,10 +73,10 @@ module _ (p : ℕ) (long : 2 ≤ p) (ev quiet : Events) (cyclic : IsCyclic p ev)
   abbrev parts : Watch
   parts = in_windows watch
 
-  abbrev before : Window → Told
+  abbrev before : Window → Finding
   before = before_window p ev launches
 
-  abbrev after : Window → Told
+  abbrev after : Window → Finding
   after = after_window p ev launches
 
   no_windows : regions p quiet ≡ [] → watch.windows ≡ []
@@ -86,46 +86,46 @@ module _ (p : ℕ) (long : 2 ≤ p) (ev quiet : Events) (cyclic : IsCyclic p ev)
       TellParts p launches two pin d watch found
   parts_free none is =
       record {
-        level = tells_free p pin d (told_never p watch) found.level
-            (ap (λ (s : Bool). cond (watch.never && s) (told_alone NoNumber) (told_alone Free)) none
-            ∙ ap (λ (s : Bool). cond s (told_alone NoNumber) (told_alone Free)) (and_none watch.never))
+        level = tells_free p pin d (finding_never p watch) found.level
+            (ap (λ (s : Bool). cond (watch.never && s) (finding_alone NoNumber) (finding_alone Free)) none
+            ∙ ap (λ (s : Bool). cond s (finding_alone NoNumber) (finding_alone Free)) (and_none watch.never))
             (ap (λ (s : Slacks). s.level) is);
-        before = λ exact. tells_free p pin d (told_before p launches parts) found.before (told_free before p parts launches.last_way none) (ap (λ (s : Slacks). s.before) is);
-        after = λ exact. tells_free p pin d (told_after p launches parts) found.after (told_free after p parts launches.first_way none) (ap (λ (s : Slacks). s.after) is);
-        alike = alike_none found (told_before p launches parts).slack (told_after p launches parts).slack
+        before = λ exact. tells_free p pin d (finding_before p launches parts) found.before (finding_free before p parts launches.last_way none) (ap (λ (s : Slacks). s.before) is);
+        after = λ exact. tells_free p pin d (finding_after p launches parts) found.after (finding_free after p parts launches.first_way none) (ap (λ (s : Slacks). s.after) is);
+        alike = alike_none found (finding_before p launches parts).slack (finding_after p launches parts).slack
             (ap (λ (s : Slacks). s.before) is) (ap (λ (s : Slacks). s.after) is)
-            (ap (λ (t : Told). t.slack) (told_free before p parts launches.last_way none))
-            (ap (λ (t : Told). t.slack) (told_free after p parts launches.first_way none));
+            (ap (λ (t : Finding). t.slack) (finding_free before p parts launches.last_way none))
+            (ap (λ (t : Finding). t.slack) (finding_free after p parts launches.first_way none));
       }
 
   pub parts_unmet : regions p quiet ≡ [] → all_events p quiet ≡ false → found ≡ record { level = None; before = None; after = None } →
       TellParts p launches two pin d watch found
   parts_unmet none some is =
       record {
-        level = tells_free p pin d (told_never p watch) found.level
-            (ap (λ (s : Bool). cond (s && some_event p ev) (told_alone NoNumber) (told_alone Free)) some)
+        level = tells_free p pin d (finding_never p watch) found.level
+            (ap (λ (s : Bool). cond (s && some_event p ev) (finding_alone NoNumber) (finding_alone Free)) some)
             (ap (λ (s : Slacks). s.level) is);
-        before = λ exact. tells_free p pin d (told_before p launches parts) found.before (told_unmet before p parts launches.last_way (no_windows none) refl) (ap (λ (s : Slacks). s.before) is);
-        after = λ exact. tells_free p pin d (told_after p launches parts) found.after (told_unmet after p parts launches.first_way (no_windows none) refl) (ap (λ (s : Slacks). s.after) is);
-        alike = alike_none found (told_before p launches parts).slack (told_after p launches parts).slack
+        before = λ exact. tells_free p pin d (finding_before p launches parts) found.before (finding_unmet before p parts launches.last_way (no_windows none) refl) (ap (λ (s : Slacks). s.before) is);
+        after = λ exact. tells_free p pin d (finding_after p launches parts) found.after (finding_unmet after p parts launches.first_way (no_windows none) refl) (ap (λ (s : Slacks). s.after) is);
+        alike = alike_none found (finding_before p launches parts).slack (finding_after p launches parts).slack
             (ap (λ (s : Slacks). s.before) is) (ap (λ (s : Slacks). s.after) is)
-            (ap (λ (t : Told). t.slack) (told_unmet before p parts launches.last_way (no_windows none) refl))
-            (ap (λ (t : Told). t.slack) (told_unmet after p parts launches.first_way (no_windows none) refl));
+            (ap (λ (t : Finding). t.slack) (finding_unmet before p parts launches.last_way (no_windows none) refl))
+            (ap (λ (t : Finding). t.slack) (finding_unmet after p parts launches.first_way (no_windows none) refl));
       }
 
-  pub parts_never : (told : Found) → all_events p quiet ≡ true → some_event p ev ≡ true → IsTold p told (told_of pin d (told_alone NoNumber)) →
-      found ≡ record { level = Some told; before = None; after = None } → TellParts p launches two pin d watch found
-  parts_never told all some told_is is =
+  pub parts_never : (finding : Found) → all_events p quiet ≡ true → some_event p ev ≡ true → IsFinding p finding (finding_of pin d (finding_alone NoNumber)) →
+      found ≡ record { level = Some finding; before = None; after = None } → TellParts p launches two pin d watch found
+  parts_never finding all some finding_is is =
       let none = all_here p quiet still_cyclic long all in
       record {
-        level = subst (λ (o : Option Found). Tells p o (told_of pin d (told_never p watch))) (sym (ap (λ (s : Slacks). s.level) is))
-            (subst (IsTold p told) (sym (ap (told_of pin d) (λ i. cond (all i && some i) (told_alone NoNumber) (told_alone Free)))) told_is);
-        before = λ exact. tells_free p pin d (told_before p launches parts) found.before (told_unmet before p parts launches.last_way (no_windows none) refl) (ap (λ (s : Slacks). s.before) is);
-        after = λ exact. tells_free p pin d (told_after p launches parts) found.after (told_unmet after p parts launches.first_way (no_windows none) refl) (ap (λ (s : Slacks). s.after) is);
-        alike = alike_none found (told_before p launches parts).slack (told_after p launches parts).slack
+        level = subst (λ (o : Option Found). Tells p o (finding_of pin d (finding_never p watch))) (sym (ap (λ (s : Slacks). s.level) is))
+            (subst (IsFinding p finding) (sym (ap (finding_of pin d) (λ i. cond (all i && some i) (finding_alone NoNumber) (finding_alone Free)))) finding_is);
+        before = λ exact. tells_free p pin d (finding_before p launches parts) found.before (finding_unmet before p parts launches.last_way (no_windows none) refl) (ap (λ (s : Slacks). s.before) is);
+        after = λ exact. tells_free p pin d (finding_after p launches parts) found.after (finding_unmet after p parts launches.first_way (no_windows none) refl) (ap (λ (s : Slacks). s.after) is);
+        alike = alike_none found (finding_before p launches parts).slack (finding_after p launches parts).slack
             (ap (λ (s : Slacks). s.before) is) (ap (λ (s : Slacks). s.after) is)
-            (ap (λ (t : Told). t.slack) (told_unmet before p parts launches.last_way (no_windows none) refl))
-            (ap (λ (t : Told). t.slack) (told_unmet after p parts launches.first_way (no_windows none) refl));
+            (ap (λ (t : Finding). t.slack) (finding_unmet before p parts launches.last_way (no_windows none) refl))
+            (ap (λ (t : Finding). t.slack) (finding_unmet after p parts launches.first_way (no_windows none) refl));
       }
 
   windows_met : (regions p quiet ≡ [] → ⊥) → watch.windows ≡ [] → ⊥
@@ -135,33 +135,33 @@ module _ (p : ℕ) (long : 2 ≤ p) (ev quiet : Events) (cyclic : IsCyclic p ev)
       by [] is none = some is
       by (r ∷ rs) is none = absurd (cc)
 
-  never_is : all_events p quiet ≡ false → told_never p watch ≡ told_alone Free
-  never_is some = ap (λ (s : Bool). cond (s && some_event p ev) (told_alone NoNumber) (told_alone Free)) some
+  never_is : all_events p quiet ≡ false → finding_never p watch ≡ finding_alone Free
+  never_is some = ap (λ (s : Bool). cond (s && some_event p ev) (finding_alone NoNumber) (finding_alone Free)) some
 
-  module _ (told : Found) (some : all_events p quiet ≡ false) (met : regions p quiet ≡ [] → ⊥) (all : all_events p ev ≡ true)
-      (told_is : IsTold p told (told_of pin d (told_alone NoNumber)))
-      (is : found ≡ record { level = None; before = Some told; after = Some told }) where
-    always_before : Tells p found.before (told_of pin d (told_before p launches parts))
+  module _ (finding : Found) (some : all_events p quiet ≡ false) (met : regions p quiet ≡ [] → ⊥) (all : all_events p ev ≡ true)
+      (finding_is : IsFinding p finding (finding_of pin d (finding_alone NoNumber)))
+      (is : found ≡ record { level = None; before = Some finding; after = Some finding }) where
+    always_before : Tells p found.before (finding_of pin d (finding_before p launches parts))
     always_before =
         let event = some_where_all p ev cyclic long all in
-        subst (λ (o : Option Found). Tells p o (told_of pin d (told_before p launches parts))) (sym (ap (λ (s : Slacks). s.before) is))
-        (subst (IsTold p told)
-        (sym (ap (told_of pin d) (ap (λ way. told_by before way p parts) no_last ∙ told_always before p parts event all refl (windows_met met)))) told_is)
+        subst (λ (o : Option Found). Tells p o (finding_of pin d (finding_before p launches parts))) (sym (ap (λ (s : Slacks). s.before) is))
+        (subst (IsFinding p finding)
+        (sym (ap (finding_of pin d) (ap (λ way. finding_by before way p parts) no_last ∙ finding_always before p parts event all refl (windows_met met)))) finding_is)
 
-    always_after : Tells p found.after (told_of pin d (told_after p launches parts))
+    always_after : Tells p found.after (finding_of pin d (finding_after p launches parts))
     always_after =
         let event = some_where_all p ev cyclic long all in
-        subst (λ (o : Option Found). Tells p o (told_of pin d (told_after p launches parts))) (sym (ap (λ (s : Slacks). s.after) is))
-        (subst (IsTold p told)
-        (sym (ap (told_of pin d) (ap (λ way. told_by after way p parts) no_first ∙ told_always after p parts event all refl (windows_met met)))) told_is)
+        subst (λ (o : Option Found). Tells p o (finding_of pin d (finding_after p launches parts))) (sym (ap (λ (s : Slacks). s.after) is))
+        (subst (IsFinding p finding)
+        (sym (ap (finding_of pin d) (ap (λ way. finding_by after way p parts) no_first ∙ finding_always after p parts event all refl (windows_met met)))) finding_is)
 
     pub parts_always : TellParts p launches two pin d watch found
     parts_always =
         record {
-          level = tells_free p pin d (told_never p watch) found.level (never_is some) (ap (λ (s : Slacks). s.level) is);
+          level = tells_free p pin d (finding_never p watch) found.level (never_is some) (ap (λ (s : Slacks). s.level) is);
           before = λ exact. always_before;
           after = λ exact. always_after;
-          alike = alike_told p found (told_of pin d (told_before p launches parts)) (told_of pin d (told_after p launches parts))
+          alike = alike_finding p found (finding_of pin d (finding_before p launches parts)) (finding_of pin d (finding_after p launches parts))
               always_before always_after;
         }
 
@@ -169,20 +169,20 @@ module _ (p : ℕ) (long : 2 ≤ p) (ev quiet : Events) (cyclic : IsCyclic p ev)
       TellWindows p ev launches two pin d windows found → TellParts p launches two pin d watch found
   parts_windows windows are some event not_all tells =
       record {
-        level = tells_free p pin d (told_never p watch) found.level (never_is some) tells.level;
+        level = tells_free p pin d (finding_never p watch) found.level (never_is some) tells.level;
         before = λ exact.
             subst (Tells p found.before)
-            (ap (told_of pin d) (ap (λ (ws : List Window). least (map before ws)) are ∙ sym (told_windows before p parts launches.last_way event not_all refl)))
+            (ap (finding_of pin d) (ap (λ (ws : List Window). least (map before ws)) are ∙ sym (finding_windows before p parts launches.last_way event not_all refl)))
             (tells.before (ap (list_any (two_in p ev two)) are ∙ exact));
         after = λ exact.
             subst (Tells p found.after)
-            (ap (told_of pin d) (ap (λ (ws : List Window). least (map after ws)) are ∙ sym (told_windows after p parts launches.first_way event not_all refl)))
+            (ap (finding_of pin d) (ap (λ (ws : List Window). least (map after ws)) are ∙ sym (finding_windows after p parts launches.first_way event not_all refl)))
             (tells.after (ap (list_any (two_in p ev two)) are ∙ exact));
         alike =
-            subst (λ (t : Told). AreAlike found t.slack (told_after p launches parts).slack)
-            (ap (λ (ws : List Window). least (map before ws)) are ∙ sym (told_windows before p parts launches.last_way event not_all refl))
-            (subst (λ (t : Told). AreAlike found (least (map before windows)).slack t.slack)
-            (ap (λ (ws : List Window). least (map after ws)) are ∙ sym (told_windows after p parts launches.first_way event not_all refl)) tells.alike);
+            subst (λ (t : Finding). AreAlike found t.slack (finding_after p launches parts).slack)
+            (ap (λ (ws : List Window). least (map before ws)) are ∙ sym (finding_windows before p parts launches.last_way event not_all refl))
+            (subst (λ (t : Finding). AreAlike found (least (map before windows)).slack t.slack)
+            (ap (λ (ws : List Window). least (map after ws)) are ∙ sym (finding_windows after p parts launches.first_way event not_all refl)) tells.alike);
       }
 
 -- ---- pins of an instance
@@ -239,7 +239,7 @@ module _ (c : Circuit) (ws : Waves) where
 
   module _ (j : Instance) (held : Held) (pin_is : slice_get j.pins 1 ≡ Some held.pin) (clock_is : slice_get j.pins 0 ≡ Some held.clock)
       (opens_is : held.opens ≡ Rise) (found : Slacks) (closing : Direction) (watch : Watch)
-      (told : TellWatch (period c.header) (launches_of c ws (Some held)) (is_by_arrivals (period c.header) (two_of c ws (Some held)) watch) 1 Change watch found) where
+      (finding : TellWatch (period c.header) (launches_of c ws (Some held)) (is_by_arrivals (period c.header) (two_of c ws (Some held)) watch) 1 Change watch found) where
     exactly : is_by_arrivals (period c.header) (two_at_ends c ws j 0 1 Rise) watch ≡ false → is_by_arrivals (period c.header) (two_of c ws (Some held)) watch ≡ false
     exactly exact = ap (λ (two : Window → Region → Bool). is_by_arrivals (period c.header) two watch) (twos_are j 0 1 Rise held pin_is clock_is opens_is) ∙ exact
 
@@ -250,32 +250,32 @@ module _ (c : Circuit) (ws : Waves) where
         (list_any (two_in (period c.header) watch.changes (two_at_ends c ws j 0 1 Rise)) watch.windows) exact).0
 
     pub check_before : is_by_arrivals (period c.header) (two_at_ends c ws j 0 1 Rise) watch ≡ false →
-        Tells (period c.header) found.before (told_of 1 Change (told_before (period c.header) (checker_launches c ws j closing watch.windows) watch))
+        Tells (period c.header) found.before (finding_of 1 Change (finding_before (period c.header) (checker_launches c ws j closing watch.windows) watch))
     check_before exact =
         let launches = launches_are j 0 1 Rise held pin_is clock_is opens_is in
         subst (Tells (period c.header) found.before)
-        (ap (told_of 1 Change) (ap (λ (l : Launches). told_before (period c.header) l watch) launches
+        (ap (finding_of 1 Change) (ap (λ (l : Launches). finding_before (period c.header) l watch) launches
         ∙ same_ways (before_window (period c.header) watch.changes (launches_at c ws j 0 1 Rise)) (period c.header) watch None
         (checker_launches c ws j closing watch.windows).last_way (unmet exact)))
-        (told.before (exactly exact))
+        (finding.before (exactly exact))
 
     pub check_after : is_by_arrivals (period c.header) (two_at_ends c ws j 0 1 Rise) watch ≡ false →
-        Tells (period c.header) found.after (told_of 1 Change (told_after (period c.header) (checker_launches c ws j closing watch.windows) watch))
+        Tells (period c.header) found.after (finding_of 1 Change (finding_after (period c.header) (checker_launches c ws j closing watch.windows) watch))
     check_after exact =
         let launches = launches_are j 0 1 Rise held pin_is clock_is opens_is in
         subst (Tells (period c.header) found.after)
-        (ap (told_of 1 Change) (ap (λ (l : Launches). told_after (period c.header) l watch) launches
+        (ap (finding_of 1 Change) (ap (λ (l : Launches). finding_after (period c.header) l watch) launches
         ∙ same_ways (after_window (period c.header) watch.changes (launches_at c ws j 0 1 Rise)) (period c.header) watch None
         (checker_launches c ws j closing watch.windows).first_way (unmet exact)))
-        (told.after (exactly exact))
+        (finding.after (exactly exact))
 
-    pub check_alike : AreAlike found (told_before (period c.header) (checker_launches c ws j closing watch.windows) watch).slack
-        (told_after (period c.header) (checker_launches c ws j closing watch.windows) watch).slack
+    pub check_alike : AreAlike found (finding_before (period c.header) (checker_launches c ws j closing watch.windows) watch).slack
+        (finding_after (period c.header) (checker_launches c ws j closing watch.windows) watch).slack
     check_alike =
         let launches = launches_are j 0 1 Rise held pin_is clock_is opens_is in
-        let at : AreAlike found (told_before (period c.header) (launches_at c ws j 0 1 Rise) watch).slack
-        (told_after (period c.header) (launches_at c ws j 0 1 Rise) watch).slack =
-        subst (λ (l : Launches). AreAlike found (told_before (period c.header) l watch).slack (told_after (period c.header) l watch).slack) launches told.alike in
+        let at : AreAlike found (finding_before (period c.header) (launches_at c ws j 0 1 Rise) watch).slack
+        (finding_after (period c.header) (launches_at c ws j 0 1 Rise) watch).slack =
+        subst (λ (l : Launches). AreAlike found (finding_before (period c.header) l watch).slack (finding_after (period c.header) l watch).slack) launches finding.alike in
         let last = alike_ways (before_window (period c.header) watch.changes (launches_at c ws j 0 1 Rise)) (period c.header) watch None
         (checker_launches c ws j closing watch.windows).last_way in
         let first = alike_ways (after_window (period c.header) watch.changes (launches_at c ws j 0 1 Rise)) (period c.header) watch None
@@ -325,9 +325,9 @@ module _ (p : ℕ) (ev : Events) (cyclic : IsCyclic p ev) (long : 2 ≤ p) (none
       by false is = refl
       by true is = absurd (cc (sym none ∙ in_some_slot p ev cyclic long t t (omega (arith, long)) is))
 
-  least_free : {A : Type 0} (at : A → Told) (xs : List A) → ((x : A) → at x ≡ told_alone Free) → least (map at xs) ≡ told_alone Free
+  least_free : {A : Type 0} (at : A → Finding) (xs : List A) → ((x : A) → at x ≡ finding_alone Free) → least (map at xs) ≡ finding_alone Free
   least_free at [] free = refl
-  least_free at (x ∷ xs) free = ap (λ (told : Told). least (told ∷ map at xs)) (free x) ∙ least_free at xs free
+  least_free at (x ∷ xs) free = ap (λ (finding : Finding). least (finding ∷ map at xs)) (free x) ∙ least_free at xs free
 
   none_before : (t : ℕ) → still_before p ev t ≡ None
   none_before t = nothing_from (λ n. ev (ahead p t - n)) p 0 (λ u from below. never_here (ahead p t - u))
@@ -336,10 +336,10 @@ module _ (p : ℕ) (ev : Events) (cyclic : IsCyclic p ev) (long : 2 ≤ p) (none
   none_after t = nothing_from (λ n. ev (t + 1 + n)) p 0 (λ u from below. never_here (t + 1 + u))
 
   pub quiet_free : (clock : Events) →
-      (least_still (still_before p ev) p clock ≡ told_alone Free) × (least_still (still_after p ev) p clock ≡ told_alone Free)
+      (least_still (still_before p ev) p clock ≡ finding_alone Free) × (least_still (still_after p ev) p clock ≡ finding_alone Free)
   quiet_free clock = (
-    least_free (λ (t : ℕ). told_still (still_before p ev t)) (filter clock (range_with_len 0 p)) (λ t. ap told_still (none_before t)),
-    least_free (λ (t : ℕ). told_still (still_after p ev t)) (filter clock (range_with_len 0 p)) (λ t. ap told_still (none_after t)),
+    least_free (λ (t : ℕ). finding_still (still_before p ev t)) (filter clock (range_with_len 0 p)) (λ t. ap finding_still (none_before t)),
+    least_free (λ (t : ℕ). finding_still (still_after p ev t)) (filter clock (range_with_len 0 p)) (λ t. ap finding_still (none_after t)),
   )
 
 -- ---- the pins and limits of a checker at edges

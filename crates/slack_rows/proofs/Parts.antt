@@ -3,8 +3,8 @@ use Rattle.std.proofs.Common.{inl, inr, ◌≡◌, ◌⊎◌, ◌↔◌, ℕ, �
 use Rattle.std.specs.List.{AllByRecursion}
 use Rattle.std.proofs.lemmas.Bool.{and_from, and_parts}
 use Rattle.critical_paths.specs.Region.{IsCyclic, some_event}
-use Rattle.slack_rows.specs.Slack.{Free, NoNumber, Launches, Told, Watch, least, told_after, told_alone, told_before}
-use Rattle.slack_rows.specs.Limit.{in_windows, told_never}
+use Rattle.slack_rows.specs.Slack.{Free, NoNumber, Launches, Finding, Watch, least, finding_after, finding_alone, finding_before}
+use Rattle.slack_rows.specs.Limit.{in_windows, finding_never}
 use Rattle.slack_rows.specs.Laws.{IsBroken, IsPlaced, IsTouchedWatch, SomeOf, SomeTick}
 use Rattle.slack_rows.proofs.Broken.{least_breaks, least_broken}
 use Rattle.slack_rows.proofs.Watched.{broken_where_touched, in_some_slot, some_tick}
@@ -13,23 +13,23 @@ use Rattle.slack_rows.proofs.Watched.{broken_where_touched, in_some_slot, some_t
 
 abbrev pub PartsBreak : ℕ → Launches → Watch → Type 0
 PartsBreak p launches watch =
-    IsBroken (told_never p watch)
-    ⊎ (IsBroken (told_before p launches (in_windows watch)) ⊎ IsBroken (told_after p launches (in_windows watch)))
+    IsBroken (finding_never p watch)
+    ⊎ (IsBroken (finding_before p launches (in_windows watch)) ⊎ IsBroken (finding_after p launches (in_windows watch)))
 
 module _ (p : ℕ) (launches : Launches) (watch : Watch) (long : 2 ≤ p) (cyclic : IsCyclic p watch.changes)
     (placed : AllByRecursion (IsPlaced p) watch.windows) where
-  never_breaks : watch.never ≡ true → SomeTick watch.changes → IsBroken (told_never p watch)
+  never_breaks : watch.never ≡ true → SomeTick watch.changes → IsBroken (finding_never p watch)
   never_breaks never some = by (watch.never && some_event p watch.changes)
       (and_from watch.never (some_event p watch.changes) never (in_some_slot p watch.changes cyclic long some.tick some.tick (omega (arith, long)) some.is))
     where
-      by : (b : Bool) → b ≡ true → IsBroken (cond b (told_alone NoNumber) (told_alone Free))
+      by : (b : Bool) → b ≡ true → IsBroken (cond b (finding_alone NoNumber) (finding_alone Free))
       by true is = refl
       by false is = absurd (cc)
 
-  broken_never : IsBroken (told_never p watch) → (watch.never ≡ true) × SomeTick watch.changes
+  broken_never : IsBroken (finding_never p watch) → (watch.never ≡ true) × SomeTick watch.changes
   broken_never broken = by (watch.never && some_event p watch.changes) refl broken
     where
-      by : (b : Bool) → (watch.never && some_event p watch.changes) ≡ b → IsBroken (cond b (told_alone NoNumber) (told_alone Free)) →
+      by : (b : Bool) → (watch.never && some_event p watch.changes) ≡ b → IsBroken (cond b (finding_alone NoNumber) (finding_alone Free)) →
           (watch.never ≡ true) × SomeTick watch.changes
       by true is broken =
           let parts = and_parts watch.never (some_event p watch.changes) is in
@@ -69,8 +69,8 @@ module _ {A : Type 0} (P Q : A → Type 0) where
   some_either (x ∷ xs) (inr more) = elim (some_either xs more) [ inl some ↦ inl (inr some) | inr some ↦ inr (inr some) ]
 
 -- the least of what is told is broken exactly where one is
-pub least_iff : {A : Type 0} (at : A → Told) (xs : List A) → IsBroken (least (map at xs)) ↔ SomeOf (λ x. IsBroken (at x)) xs
+pub least_iff : {A : Type 0} (at : A → Finding) (xs : List A) → IsBroken (least (map at xs)) ↔ SomeOf (λ x. IsBroken (at x)) xs
 least_iff at xs = (
-  λ broken. elim (least_broken at (told_alone Free) xs broken) [ inl none ↦ absurd (cc) | inr some ↦ some ],
-  λ some. least_breaks at (told_alone Free) xs (inr some),
+  λ broken. elim (least_broken at (finding_alone Free) xs broken) [ inl none ↦ absurd (cc) | inr some ↦ some ],
+  λ some. least_breaks at (finding_alone Free) xs (inr some),
 )

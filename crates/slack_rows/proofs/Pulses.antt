@@ -25,8 +25,8 @@ use Rattle.pulse_check.specs.Faults.{fault_at, limited_fault, width_fault}
 use Rattle.pulse_check.specs.Pulse.{first_narrow}
 use Rattle.slack_rows.specs.declared.parameter.Word.{Word as Limit}
 use Rattle.slack_rows.specs.Pulse.{Pulse, changes_again, left_at, left_by, left_if, left_in, left_of, left_on, left_once, narrowest}
-use Rattle.slack_rows.specs.Slack.{Told, is_broken}
-use Rattle.slack_rows.specs.Limit.{told_check, told_in, told_instance, told_level, told_mark}
+use Rattle.slack_rows.specs.Slack.{Finding, is_broken}
+use Rattle.slack_rows.specs.Limit.{finding_check, finding_in, finding_instance, finding_level, finding_mark}
 use Rattle.slack_rows.specs.Laws.{AreWaves, IsBroken, WidthsBreakWithFaults, limit_of_level, width_of_level}
 use Rattle.slack_rows.proofs.Checkers.{instance_fits}
 use Rattle.slack_rows.proofs.Widths.{IsSwallowed, width_breaks}
@@ -71,17 +71,17 @@ first_there : (ps : List Pin) → 1 ≤ length ps → slice_get ps 0 ≡ None �
 first_there [] some none = absurd (omega (arith, some))
 first_there (pin ∷ ps) some none = absurd (cc)
 
-abbrev width_told : Circuit → Waves → Instance → Bool → Told
-width_told c ws j level = told_level c ws j level (width_of_level j level) (slice_get j.pins 0)
+abbrev width_finding : Circuit → Waves → Instance → Bool → Finding
+width_finding c ws j level = finding_level c ws j level (width_of_level j level) (slice_get j.pins 0)
 
 width_iff : (c : Circuit) (ws : Waves) (k : ℕ) (j : Instance) (level : Bool) → 1 ≤ length j.pins → width_of_level j level ≤ period c.header →
-    (is_some (limited_fault c ws k j level (width_of_level j level)) ≡ true) ↔ IsBroken (width_told c ws j level)
+    (is_some (limited_fault c ws k j level (width_of_level j level)) ≡ true) ↔ IsBroken (width_finding c ws j level)
 unfolding width_fault
 width_iff c ws k j level some short = by (slice_get j.pins 0) refl
   where
     by : (o : Option Pin) → slice_get j.pins 0 ≡ o →
         (is_some (option_map (fault_at k level) (first_narrow (period c.header) level (read (wave_of_pin (pin_waves c ws j) 0).cells) (width_of_level j level))) ≡ true)
-        ↔ IsBroken (told_level c ws j level (width_of_level j level) o)
+        ↔ IsBroken (finding_level c ws j level (width_of_level j level) o)
     by None none = absurd (first_there j.pins some none)
     by (Some pin) there =
         let wave = read (wave_of_pin (pin_waves c ws j) 0).cells in
@@ -92,13 +92,13 @@ width_iff c ws k j level some short = by (slice_get j.pins 0) refl
         (λ found. both.0 (sym fault_is ∙ found), λ broken. fault_is ∙ both.1 broken)
 
 -- what is told by the kind
-abbrev told_by_kind : Kind → Circuit → Waves → Instance → Limit → Told
-told_by_kind kind c ws j limit =
-    cond (may_be_marked kind) (told_mark c ws j limit (marked_pin j)) (told_check c ws j limit (check_of kind))
+abbrev finding_by_kind : Kind → Circuit → Waves → Instance → Limit → Finding
+finding_by_kind kind c ws j limit =
+    cond (may_be_marked kind) (finding_mark c ws j limit (marked_pin j)) (finding_check c ws j limit (check_of kind))
 
-told_is : (c : Circuit) (ws : Waves) (j : Instance) (level : Bool) → told_by_kind MinPulse c ws j (limit_of_level level) ≡ width_told c ws j level
-told_is c ws j true = refl
-told_is c ws j false = refl
+finding_is : (c : Circuit) (ws : Waves) (j : Instance) (level : Bool) → finding_by_kind MinPulse c ws j (limit_of_level level) ≡ width_finding c ws j level
+finding_is c ws j true = refl
+finding_is c ws j false = refl
 
 pulses_short : (h : Header) (limits : Limits) → PulsesFit h limits → (high_of limits ≤ period h) × (low_of limits ≤ period h)
 pulses_short h Unlimited none = absurd none
@@ -111,7 +111,7 @@ short_by h j false fits = (pulses_short h j.limits fits).1
 
 pulses_by : (c : Circuit) (ws : Waves) (k : ℕ) (j : Instance) (level : Bool) → AreWaves c ws → slice_get c.instances k ≡ Some j →
     (kind : Kind) → j.kind ≡ kind → checks_pulses kind ≡ true →
-    (is_some (limited_fault c ws k j level (width_of_level j level)) ≡ true) ↔ IsBroken (told_by_kind kind c ws j (limit_of_level level))
+    (is_some (limited_fault c ws k j level (width_of_level j level)) ≡ true) ↔ IsBroken (finding_by_kind kind c ws j (limit_of_level level))
 pulses_by c ws k j level are at Buf is pulses = absurd (cc)
 pulses_by c ws k j level are at And is pulses = absurd (cc)
 pulses_by c ws k j level are at Or is pulses = absurd (cc)
@@ -131,14 +131,14 @@ pulses_by c ws k j level are at MinPulse is pulses =
     let some : 1 ≤ length j.pins = subst (λ kind. (pin_counts kind).0 ≤ length j.pins) is fits.pins.least in
     let limits : LimitsFit c.header MinPulse j.limits = subst (λ kind. LimitsFit c.header kind j.limits) is fits.lim in
     let both = width_iff c ws k j level some (short_by c.header j level limits) in
-    let same : is_broken (told_by_kind MinPulse c ws j (limit_of_level level)).slack ≡ is_broken (width_told c ws j level).slack =
-    ap (λ (told : Told). is_broken told.slack) (told_is c ws j level) in
+    let same : is_broken (finding_by_kind MinPulse c ws j (limit_of_level level)).slack ≡ is_broken (width_finding c ws j level).slack =
+    ap (λ (finding : Finding). is_broken finding.slack) (finding_is c ws j level) in
     (λ found. same ∙ both.0 found, λ broken. both.1 (sym same ∙ broken))
 
 pub widths_break_with_faults : WidthsBreakWithFaults
-unfolding told_in
+unfolding finding_in
 widths_break_with_faults c ws k j level are at pulses =
     let both = pulses_by c ws k j level are at j.kind refl pulses in
-    let same : is_broken (told_instance c ws (limit_of_level level) (slice_get c.instances k)).slack ≡ is_broken (told_by_kind j.kind c ws j (limit_of_level level)).slack =
-    ap (λ o. is_broken (told_instance c ws (limit_of_level level) o).slack) at in
+    let same : is_broken (finding_instance c ws (limit_of_level level) (slice_get c.instances k)).slack ≡ is_broken (finding_by_kind j.kind c ws j (limit_of_level level)).slack =
+    ap (λ o. is_broken (finding_instance c ws (limit_of_level level) o).slack) at in
     (λ found. same ∙ both.0 found, λ broken. both.1 (sym same ∙ broken))

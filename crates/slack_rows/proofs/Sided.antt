@@ -11,18 +11,18 @@ use Rattle.slack_rows.specs.declared.rows.Least.{Least}
 use Rattle.slack_rows.specs.declared.slack.Slack.{Slack as Number}
 use Rattle.slack_rows.specs.declared.slack.Slack.TheVariants.{NoNumber as NumberOfNone, Ticks as NumberOfTicks, Way as NumberOfWay}
 use Rattle.slack_rows.specs.declared.slack.Slacks.{Slacks}
-use Rattle.slack_rows.specs.declared.slack.Told.{Told as Found}
-use Rattle.slack_rows.specs.Slack.{Told, is_broken, is_free, is_less}
-use Rattle.slack_rows.specs.Limit.{Case, least_told, told_case, told_in}
+use Rattle.slack_rows.specs.declared.slack.Finding.{Finding as Found}
+use Rattle.slack_rows.specs.Slack.{Finding, is_broken, is_free, is_less}
+use Rattle.slack_rows.specs.Limit.{Case, least_finding, finding_case, finding_in}
 use Rattle.slack_rows.specs.Rows.{all_limits, limit_with, partner}
 use Rattle.slack_rows.specs.Known.{AreKnown, BreakAlike, BreaksBoth, IsAlike, IsLowered, IsLoweredBy, SlacksKnown, breaks, least_at, may_be_two}
-use Rattle.slack_rows.specs.Views.{slack_by, slack_for, slack_told}
+use Rattle.slack_rows.specs.Views.{slack_by, slack_for, slack_finding}
 use Rattle.slack_rows.proofs.Alike.{broken_lesser, exchanged, or_first, free_lesser, or_second}
 use Rattle.slack_rows.proofs.Blocks.{before_it}
 use Rattle.slack_rows.proofs.Broken.{less_breaks, more_breaks}
 use Rattle.slack_rows.proofs.Keeping.{alike_now}
 use Rattle.slack_rows.proofs.Stepwise.{IsAlikeIn, at_set, beside_set, some_same, within_list}
-use Rattle.slack_rows.proofs.Tellings.{least_map_more}
+use Rattle.slack_rows.proofs.Findings.{least_map_more}
 
 -- ---- one limit with what is told of it in a case more
 
@@ -34,46 +34,46 @@ and_true : (a : Bool) → a ≡ (a && true)
 and_true true = refl
 and_true false = refl
 
-pub lowered_breaks : (sets new : List (ℕ × ℕ)) (old found : Option Least) (told : Option Found) (case : ℕ) →
-    IsLowered sets old told case new found → breaks found ≡ (breaks old || is_broken (slack_told told))
+pub lowered_breaks : (sets new : List (ℕ × ℕ)) (old found : Option Least) (finding : Option Found) (case : ℕ) →
+    IsLowered sets old finding case new found → breaks found ≡ (breaks old || is_broken (slack_finding finding))
 lowered_breaks sets new old found None case is = ap breaks is.same ∙ or_none (breaks old)
-lowered_breaks sets new None None (Some told) case is = absurd is
-lowered_breaks sets new None (Some found) (Some told) case is = ap (λ (t : Found). is_broken (slack_by t.slack)) is.same_told
-lowered_breaks sets new (Some least) found (Some told) case is =
-    by (is_less (slack_by told.slack) (slack_by least.told.slack)) refl (is_less (slack_by least.told.slack) (slack_by told.slack)) found is
+lowered_breaks sets new None None (Some finding) case is = absurd is
+lowered_breaks sets new None (Some found) (Some finding) case is = ap (λ (t : Found). is_broken (slack_by t.slack)) is.same_finding
+lowered_breaks sets new (Some least) found (Some finding) case is =
+    by (is_less (slack_by finding.slack) (slack_by least.finding.slack)) refl (is_less (slack_by least.finding.slack) (slack_by finding.slack)) found is
   where
-    kept : is_less (slack_by told.slack) (slack_by least.told.slack) ≡ false →
-        is_broken (slack_by least.told.slack) ≡ (is_broken (slack_by least.told.slack) || is_broken (slack_by told.slack))
-    kept more = or_first (is_broken (slack_by least.told.slack)) (is_broken (slack_by told.slack)) (more_breaks (slack_by told.slack) (slack_by least.told.slack) more)
+    kept : is_less (slack_by finding.slack) (slack_by least.finding.slack) ≡ false →
+        is_broken (slack_by least.finding.slack) ≡ (is_broken (slack_by least.finding.slack) || is_broken (slack_by finding.slack))
+    kept more = or_first (is_broken (slack_by least.finding.slack)) (is_broken (slack_by finding.slack)) (more_breaks (slack_by finding.slack) (slack_by least.finding.slack) more)
 
-    by : (a : Bool) → is_less (slack_by told.slack) (slack_by least.told.slack) ≡ a → (b : Bool) (some : Option Least) →
-        IsLoweredBy a b sets least told case new some → breaks some ≡ (is_broken (slack_by least.told.slack) || is_broken (slack_by told.slack))
+    by : (a : Bool) → is_less (slack_by finding.slack) (slack_by least.finding.slack) ≡ a → (b : Bool) (some : Option Least) →
+        IsLoweredBy a b sets least finding case new some → breaks some ≡ (is_broken (slack_by least.finding.slack) || is_broken (slack_by finding.slack))
     by true less b None lowered = absurd lowered
     by true less b (Some some) lowered =
-        ap (λ (t : Found). is_broken (slack_by t.slack)) lowered.same_told
-        ∙ or_second (is_broken (slack_by least.told.slack)) (is_broken (slack_by told.slack)) (less_breaks (slack_by told.slack) (slack_by least.told.slack) less)
+        ap (λ (t : Found). is_broken (slack_by t.slack)) lowered.same_finding
+        ∙ or_second (is_broken (slack_by least.finding.slack)) (is_broken (slack_by finding.slack)) (less_breaks (slack_by finding.slack) (slack_by least.finding.slack) less)
     by false more true some lowered = ap breaks lowered.same ∙ kept more
     by false more false None lowered = absurd lowered
-    by false more false (Some some) lowered = ap (λ (t : Found). is_broken (slack_by t.slack)) lowered.same_told ∙ kept more
+    by false more false (Some some) lowered = ap (λ (t : Found). is_broken (slack_by t.slack)) lowered.same_finding ∙ kept more
 
-pub lowered_free : (sets new : List (ℕ × ℕ)) (old found : Option Least) (told : Option Found) (case : ℕ) →
-    IsLowered sets old told case new found → is_none found ≡ (is_none old && is_none told)
+pub lowered_free : (sets new : List (ℕ × ℕ)) (old found : Option Least) (finding : Option Found) (case : ℕ) →
+    IsLowered sets old finding case new found → is_none found ≡ (is_none old && is_none finding)
 lowered_free sets new old found None case is = ap (λ (o : Option Least). is_none o) is.same ∙ and_true (is_none old)
-lowered_free sets new None None (Some told) case is = absurd is
-lowered_free sets new None (Some found) (Some told) case is = refl
-lowered_free sets new (Some least) found (Some told) case is =
-    by (is_less (slack_by told.slack) (slack_by least.told.slack)) (is_less (slack_by least.told.slack) (slack_by told.slack)) found is
+lowered_free sets new None None (Some finding) case is = absurd is
+lowered_free sets new None (Some found) (Some finding) case is = refl
+lowered_free sets new (Some least) found (Some finding) case is =
+    by (is_less (slack_by finding.slack) (slack_by least.finding.slack)) (is_less (slack_by least.finding.slack) (slack_by finding.slack)) found is
   where
-    by : (a b : Bool) (some : Option Least) → IsLoweredBy a b sets least told case new some → is_none some ≡ false
+    by : (a b : Bool) (some : Option Least) → IsLoweredBy a b sets least finding case new some → is_none some ≡ false
     by true b None lowered = absurd lowered
     by true b (Some some) lowered = refl
     by false true some lowered = ap (λ (o : Option Least). is_none o) lowered.same
     by false false None lowered = absurd lowered
     by false false (Some some) lowered = refl
 
-none_free : (o : Option Found) → is_none o ≡ is_free (slack_told o)
+none_free : (o : Option Found) → is_none o ≡ is_free (slack_finding o)
 none_free None = refl
-none_free (Some told) = by told.slack
+none_free (Some finding) = by finding.slack
   where
     by : (n : Number) → false ≡ is_free (slack_by n)
     by (NumberOfNone reason) = refl
@@ -114,28 +114,28 @@ module _ (c : Circuit) (cases : List Case) (one : Case) (limits : List Parameter
   all = cases ++ one ∷ []
 
   abbrev pub broken_in : List Case → Subject → Limit → Bool
-  broken_in some subject word = is_broken (least_told c some subject word).slack
+  broken_in some subject word = is_broken (least_finding c some subject word).slack
 
   abbrev pub free_in : List Case → Subject → Limit → Bool
-  free_in some subject word = is_free (least_told c some subject word).slack
+  free_in some subject word = is_free (least_finding c some subject word).slack
 
   broken_more : (subject : Subject) (word : Limit) →
-      broken_in all subject word ≡ (broken_in cases subject word || is_broken (told_in c one.waves subject word).slack)
+      broken_in all subject word ≡ (broken_in cases subject word || is_broken (finding_in c one.waves subject word).slack)
   broken_more subject word =
-      ap (λ (t : Told). is_broken t.slack) (least_map_more (told_case c subject word) cases one)
-      ∙ broken_lesser (least_told c cases subject word) (told_case c subject word one)
+      ap (λ (t : Finding). is_broken t.slack) (least_map_more (finding_case c subject word) cases one)
+      ∙ broken_lesser (least_finding c cases subject word) (finding_case c subject word one)
 
   free_more : (subject : Subject) (word : Limit) →
-      free_in all subject word ≡ (free_in cases subject word && is_free (told_in c one.waves subject word).slack)
+      free_in all subject word ≡ (free_in cases subject word && is_free (finding_in c one.waves subject word).slack)
   free_more subject word =
-      ap (λ (t : Told). is_free t.slack) (least_map_more (told_case c subject word) cases one)
-      ∙ free_lesser (least_told c cases subject word) (told_case c subject word one)
+      ap (λ (t : Finding). is_free t.slack) (least_map_more (finding_case c subject word) cases one)
+      ∙ free_lesser (least_finding c cases subject word) (finding_case c subject word one)
 
   -- the first side has the case already, and the second comes next
   abbrev pub HalfBoth : List (Option Least) → ℕ → Parameter → Slacks → Option Limit → Type 0
   HalfBoth least place q slacks None = Unit {0}
   HalfBoth least place q slacks (Some before) =
-      ((breaks (least_at least place 1) || breaks (least_at least place 0)) || is_broken (slack_told (slack_for slacks q.word)))
+      ((breaks (least_at least place 1) || breaks (least_at least place 0)) || is_broken (slack_finding (slack_for slacks q.word)))
       ≡ (broken_in all q.subject before || broken_in all q.subject q.word)
 
   abbrev pub IsHalf : List (Option Least) → ℕ → Option Subject → Slacks → Parameter → Option Limit → Type 0
@@ -190,13 +190,13 @@ module _ (c : Circuit) (cases : List Case) (one : Case) (limits : List Parameter
       (before_slacks slacks : Slacks) (ws : Waves) (at : slice_get limits place ≡ Some q) (here : slice_get least place ≡ Some old)
       (is : next ≡ slice_set least place found) (long_next : length next ≡ length least) (passed : PassedAlike least place subject before_slacks)
       (same : subject ≡ Some q.subject → slacks ≡ before_slacks) (waves : one.waves ≡ ws) (known : SlacksKnown c ws (Some q.subject) slacks)
-      (told : Option Found) (told_is : told ≡ slack_for slacks q.word)
-      (breaks_told : breaks found ≡ (breaks old || is_broken (slack_told told))) (free_told : is_none found ≡ (is_none old && is_none told)) where
-    breaks_more : breaks found ≡ (breaks old || is_broken (slack_told (slack_for slacks q.word)))
-    breaks_more = breaks_told ∙ ap (λ (o : Option Found). breaks old || is_broken (slack_told o)) told_is
+      (finding : Option Found) (finding_is : finding ≡ slack_for slacks q.word)
+      (breaks_finding : breaks found ≡ (breaks old || is_broken (slack_finding finding))) (free_finding : is_none found ≡ (is_none old && is_none finding)) where
+    breaks_more : breaks found ≡ (breaks old || is_broken (slack_finding (slack_for slacks q.word)))
+    breaks_more = breaks_finding ∙ ap (λ (o : Option Found). breaks old || is_broken (slack_finding o)) finding_is
 
     free_here : is_none found ≡ (is_none old && is_none (slack_for slacks q.word))
-    free_here = free_told ∙ ap (λ (o : Option Found). is_none old && is_none o) told_is
+    free_here = free_finding ∙ ap (λ (o : Option Found). is_none old && is_none o) finding_is
 
     within : place < length least
     within = within_list least place old here
@@ -210,7 +210,7 @@ module _ (c : Circuit) (cases : List Case) (one : Case) (limits : List Parameter
     read_beside : (j : ℕ) → (place ≡ j → ⊥) → slice_index_or next j None ≡ slice_index_or least j None
     read_beside j other = read_same next least j long_next (beside j other)
 
-    alike : IsAlike (told_in c one.waves q.subject) slacks q.word
+    alike : IsAlike (finding_in c one.waves q.subject) slacks q.word
     alike = alike_now c ws one slacks limits place q are at waves known
 
     free_now : is_none found ≡ free_in all q.subject q.word
@@ -238,8 +238,8 @@ module _ (c : Circuit) (cases : List Case) (one : Case) (limits : List Parameter
         at_back least place 0 (omega arith) ∙ ap (λ (i : ℕ). slice_index_or least i None) none ∙ read_some least place old here in
         (λ i. breaks (first i) || breaks (second i))
         ∙ ap (λ (b : Bool). breaks (least_at least place 1) || b) breaks_more
-        ∙ three_ways (breaks (least_at least place 1)) (breaks old) (is_broken (slack_told (slack_for slacks q.word)))
-        ∙ (λ i. (breaks (least_at least place 1) || breaks (sym was i)) || is_broken (slack_told (slack_for (same half.0 i) q.word)))
+        ∙ three_ways (breaks (least_at least place 1)) (breaks old) (is_broken (slack_finding (slack_for slacks q.word)))
+        ∙ (λ i. (breaks (least_at least place 1) || breaks (sym was i)) || is_broken (slack_finding (slack_for (same half.0 i) q.word)))
         ∙ half.1
 
     -- what the new one does not touch
@@ -277,16 +277,16 @@ module _ (c : Circuit) (cases : List Case) (one : Case) (limits : List Parameter
         ∙ read_beside (place + 1) (λ e. absurd (omega (arith, e)))
         ∙ sym (at_back least (place + 1) 0 (omega arith) ∙ ap (λ (k : ℕ). slice_index_or least k None) none) in
         let its = alike_now c ws one slacks limits (place + 1) r are at_r waves (subst (λ (s : Subject). SlacksKnown c ws (Some s) slacks) of_subject known) in
-        let both = subst (BreakAlike (told_in c one.waves r.subject) slacks r.word) partner_is its.both in (
+        let both = subst (BreakAlike (finding_in c one.waves r.subject) slacks r.word) partner_is its.both in (
           ap Some of_subject,
-          (λ k. (breaks (first k) || breaks (second k)) || is_broken (slack_told (slack_for slacks r.word)))
-              ∙ ap (λ (b : Bool). (b || breaks (least_at least (place + 1) 0)) || is_broken (slack_told (slack_for slacks r.word)))
-              (breaks_more ∙ (λ k. breaks (sym was_first k) || is_broken (slack_told (slack_for slacks (of_word k)))))
-              ∙ regroup (breaks (least_at least (place + 1) 1)) (is_broken (slack_told (slack_for slacks before))) (breaks (least_at least (place + 1) 0))
-              (is_broken (slack_told (slack_for slacks r.word)))
+          (λ k. (breaks (first k) || breaks (second k)) || is_broken (slack_finding (slack_for slacks r.word)))
+              ∙ ap (λ (b : Bool). (b || breaks (least_at least (place + 1) 0)) || is_broken (slack_finding (slack_for slacks r.word)))
+              (breaks_more ∙ (λ k. breaks (sym was_first k) || is_broken (slack_finding (slack_for slacks (of_word k)))))
+              ∙ regroup (breaks (least_at least (place + 1) 1)) (is_broken (slack_finding (slack_for slacks before))) (breaks (least_at least (place + 1) 0))
+              (is_broken (slack_finding (slack_for slacks r.word)))
               ∙ (λ k. was k || both k)
-              ∙ exchanged (broken_in cases r.subject before) (broken_in cases r.subject r.word) (is_broken (told_in c one.waves r.subject before).slack)
-              (is_broken (told_in c one.waves r.subject r.word).slack)
+              ∙ exchanged (broken_in cases r.subject before) (broken_in cases r.subject r.word) (is_broken (finding_in c one.waves r.subject before).slack)
+              (is_broken (finding_in c one.waves r.subject r.word).slack)
               ∙ sym (λ k. broken_more r.subject before k || broken_more r.subject r.word k),
         )
 

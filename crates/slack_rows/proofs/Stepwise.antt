@@ -9,9 +9,9 @@ use Rattle.flat_circuit.specs.Circuit.{Circuit}
 use Rattle.slack_rows.specs.declared.parameter.Parameter.{Parameter}
 use Rattle.slack_rows.specs.declared.parameter.Subject.{Subject}
 use Rattle.slack_rows.specs.declared.rows.Least.{Least}
-use Rattle.slack_rows.specs.declared.slack.Told.{Told as Found}
+use Rattle.slack_rows.specs.declared.slack.Finding.{Finding as Found}
 use Rattle.slack_rows.specs.Slack.{is_broken, is_free, is_less}
-use Rattle.slack_rows.specs.Limit.{Case, by_arrivals, least_told, told_case}
+use Rattle.slack_rows.specs.Limit.{Case, by_arrivals, least_finding, finding_case}
 use Rattle.slack_rows.specs.Rows.{all_limits, partner}
 use Rattle.slack_rows.specs.Known.{AreKnown, AreSets, BreaksBoth, IsKept, IsKnown, IsLowered, IsLoweredBy, IsNumbered, IsSetWith, breaks, is_sure, may_be_two, numbers_of, places_of}
 use Rattle.slack_rows.specs.Views.{Tells, slack_by}
@@ -107,16 +107,16 @@ with_same sets new least found are numbered is =
           (subst (IsNumbered sets) (sym is.same) numbered);
     }
 
-grown : (sets new : List (ℕ × ℕ)) (least found : Option Least) (told : Option Found) (case : ℕ) → AreSets sets →
-    IsNumbered sets least → IsLowered sets least told case new found → Grown sets new found
+grown : (sets new : List (ℕ × ℕ)) (least found : Option Least) (finding : Option Found) (case : ℕ) → AreSets sets →
+    IsNumbered sets least → IsLowered sets least finding case new found → Grown sets new found
 grown sets new least found None case are numbered is = with_same sets new least found are numbered is
-grown sets new None None (Some told) case are numbered is = absurd is
-grown sets new None (Some found) (Some told) case are numbered is =
+grown sets new None None (Some finding) case are numbered is = absurd is
+grown sets new None (Some found) (Some finding) case are numbered is =
     with_set sets new (0, case) found are (omega arith) is.set
-grown sets new (Some least) found (Some told) case are numbered is =
-    by (is_less (slack_by told.slack) (slack_by least.told.slack)) (is_less (slack_by least.told.slack) (slack_by told.slack)) found is
+grown sets new (Some least) found (Some finding) case are numbered is =
+    by (is_less (slack_by finding.slack) (slack_by least.finding.slack)) (is_less (slack_by least.finding.slack) (slack_by finding.slack)) found is
   where
-    by : (a b : Bool) (some : Option Least) → IsLoweredBy a b sets least told case new some → Grown sets new some
+    by : (a b : Bool) (some : Option Least) → IsLoweredBy a b sets least finding case new some → Grown sets new some
     by true b None lowered = absurd lowered
     by true b (Some some) lowered = with_set sets new (0, case) some are (omega arith) lowered.set
     by false true some lowered = with_same sets new (Some least) some are numbered lowered
@@ -133,7 +133,7 @@ known_grown c cases q sets new None found more numbered known = known
 known_grown c cases q sets new (Some least) found more numbered known =
     let same : places_of new least.cases ≡ places_of sets least.cases = more.same least.cases numbered in
     record {
-      told = known.told;
+      finding = known.finding;
       in_case = known.in_case;
       have_it = ap (numbers_of (map (λ (case : Case). case.number) cases)) same ∙ known.have_it;
       first = (known.first.0, same ∙ known.first.1);
@@ -145,10 +145,10 @@ known_grown c cases q sets new (Some least) found more numbered known =
 -- whatever arrivals say
 pub record IsAlikeIn (c : Circuit) (cases : List Case) (limits : List Parameter) (least : List (Option Least)) : Type 0 where
   pub free : (i : ℕ) (q : Parameter) (found : Option Least) → slice_get limits i ≡ Some q →
-      slice_get least i ≡ Some found → is_none found ≡ is_free (least_told c cases q.subject q.word).slack
+      slice_get least i ≡ Some found → is_none found ≡ is_free (least_finding c cases q.subject q.word).slack
   pub alone : (i : ℕ) (q : Parameter) (found : Option Least) → slice_get limits i ≡ Some q →
       slice_get least i ≡ Some found → may_be_two q.word ≡ false →
-      breaks found ≡ is_broken (least_told c cases q.subject q.word).slack
+      breaks found ≡ is_broken (least_finding c cases q.subject q.word).slack
   pub both : (i : ℕ) (q : Parameter) → slice_get limits i ≡ Some q → BreaksBoth c cases least i q (partner q.word)
 
 module _ (c : Circuit) (cases : List Case) (one : Case) where
@@ -194,13 +194,13 @@ module _ (c : Circuit) (cases : List Case) (one : Case) where
       }
 
   pub passed_more : (limits : List Parameter) (least next : List (Option Least)) (sets new : List (ℕ × ℕ)) (place : ℕ) (q : Parameter)
-      (old found : Option Least) (told : Option Found) (case : ℕ) →
+      (old found : Option Least) (finding : Option Found) (case : ℕ) →
       slice_get limits place ≡ Some q → slice_get least place ≡ Some old → next ≡ slice_set least place found → case ≡ length cases →
-      (by_arrivals c one.waves q.subject ≡ false → Tells (period c.header) told (told_case c q.subject q.word one)) →
-      IsLowered sets old told case new found → Passed limits least sets place → Passed limits next new (place + 1)
-  passed_more limits least next sets new place q old found told case at here is last tells lowered passed =
+      (by_arrivals c one.waves q.subject ≡ false → Tells (period c.header) finding (finding_case c q.subject q.word one)) →
+      IsLowered sets old finding case new found → Passed limits least sets place → Passed limits next new (place + 1)
+  passed_more limits least next sets new place q old found finding case at here is last tells lowered passed =
       let numbered : IsNumbered sets old = passed.numbered place old here in
-      let more : Grown sets new found = grown sets new old found told case passed.are_sets numbered lowered in
+      let more : Grown sets new found = grown sets new old found finding case passed.are_sets numbered lowered in
       let within : place < length least = within_list least place old here in
       let found_here : slice_get next place ≡ Some found =
       ap (λ (xs : List (Option Least)). slice_get xs place) is ∙ at_set least place found within in
@@ -226,7 +226,7 @@ module _ (c : Circuit) (cases : List Case) (one : Case) where
               ap (λ (r : Parameter). is_sure c (cases ++ one ∷ []) r.subject) same_q ∙ sure in
               subst (λ (r : Parameter). IsKnown c (cases ++ one ∷ []) new r some) same_q
               (subst (IsKnown c (cases ++ one ∷ []) new q) same_found
-              (known_more c cases one q sets new passed.are_sets old found told case last numbered
+              (known_more c cases one q sets new passed.are_sets old found finding case last numbered
               (tells (sure_here c cases one q.subject sure_q))
               (passed.left place q old (omega arith) at here (sure_before c cases one q.subject sure_q)) lowered))
           | inr other ↦

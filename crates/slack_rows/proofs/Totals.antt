@@ -75,8 +75,8 @@ count_own least place count within broken =
 
 pub count_same : (least : List (Option Least)) (place count : ℕ) → place < length least → Counts least place count →
     (breaks (slice_index_or least place None) ≡ true → any_so_far least place ≡ true) → Counts least (place + 1) count
-count_same least place count within so_far told =
-    so_far ∙ ap not (sym (any_more least place within ∙ by (any_so_far least place) (breaks (slice_index_or least place None)) told))
+count_same least place count within so_far finding =
+    so_far ∙ ap not (sym (any_more least place within ∙ by (any_so_far least place) (breaks (slice_index_or least place None)) finding))
   where
     by : (a b : Bool) → (b ≡ true → a ≡ true) → (a || b) ≡ a
     by true b is = refl

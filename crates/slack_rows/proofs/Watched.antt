@@ -3,7 +3,7 @@ use Rattle.std.proofs.Common.{inl, inr, ◌≡◌, ◌⊎◌, ℕ, zero, suc, �
 use Rattle.std.specs.Prelude.{ℤ, is_some, is_none}
 use Rattle.std.specs.List.{AllByRecursion}
 use Rattle.std.proofs.lemmas.Bool.{cases_lt}
-use Rattle.slack_rows.specs.Slack.{Free, Launches, Told, Watch, is_broken, before_window, after_window, is_met, least, told_alone, told_by, without_number, told_before, told_after}
+use Rattle.slack_rows.specs.Slack.{Free, Launches, Finding, Watch, is_broken, before_window, after_window, is_met, least, finding_alone, finding_by, without_number, finding_before, finding_after}
 use Rattle.critical_paths.specs.Event.{Events}
 use Rattle.critical_paths.specs.Region.{IsCyclic, first_from, some_event, all_events}
 use Rattle.slack_rows.specs.Window.{Window}
@@ -70,19 +70,19 @@ number_breaks false None = refl
 number_breaks false (Some n) = refl
 
 -- it is never to change; or a change may come in every slot, and there is a window; or a window is broken
-data Cause (never : Bool) (all : Bool) (at : Window → Told) (windows : List Window) : Type 0 where
+data Cause (never : Bool) (all : Bool) (at : Window → Finding) (windows : List Window) : Type 0 where
   by_never : never ≡ true → Cause never all at windows
   by_all : (w : Window) (more : List Window) → all ≡ true → windows ≡ w ∷ more → Cause never all at windows
   by_window : SomeOf (λ w. is_broken (at w).slack ≡ true) windows → Cause never all at windows
 
-cause : (way : Option ℤ) (never all some : Bool) (at : Window → Told) (windows : List Window) →
-    IsBroken (cond (some && is_met windows never) (cond (all || never) (told_alone (without_number never way)) (least (map at windows))) (told_alone Free)) →
+cause : (way : Option ℤ) (never all some : Bool) (at : Window → Finding) (windows : List Window) →
+    IsBroken (cond (some && is_met windows never) (cond (all || never) (finding_alone (without_number never way)) (least (map at windows))) (finding_alone Free)) →
     (some ≡ true) × Cause never all at windows
 cause way never all false at windows broken = absurd (cc)
 cause way true all true at windows broken = (refl, by_never refl)
 cause way false all true at [] broken = absurd (cc)
 cause way false true true at (w ∷ windows) broken = (refl, by_all w windows refl refl)
-cause way false false true at (w ∷ windows) broken = elim (least_broken at (told_alone Free) (w ∷ windows) broken) [
+cause way false false true at (w ∷ windows) broken = elim (least_broken at (finding_alone Free) (w ∷ windows) broken) [
   | inl none ↦ absurd (cc)
   | inr some ↦ (refl, by_window some)
 ]
@@ -106,14 +106,14 @@ module _ (p : ℕ) (launches : Launches) (watch : Watch) (long : 2 ≤ p) (cycli
   abbrev ev : Events
   ev = watch.changes
 
-  abbrev before : Window → Told
+  abbrev before : Window → Finding
   before w = before_window p ev launches w
 
-  abbrev after : Window → Told
+  abbrev after : Window → Finding
   after w = after_window p ev launches w
 
-  touched_by : (way : Option ℤ) (at : Window → Told) → ((w : Window) → IsPlaced p w → is_broken (at w).slack ≡ true → IsTouched ev w) →
-      IsBroken (told_by at way p watch) → IsTouchedWatch watch
+  touched_by : (way : Option ℤ) (at : Window → Finding) → ((w : Window) → IsPlaced p w → is_broken (at w).slack ≡ true → IsTouched ev w) →
+      IsBroken (finding_by at way p watch) → IsTouchedWatch watch
   touched_by way at touches broken =
       by (cause way watch.never (all_events p ev) (some_event p ev) at watch.windows broken)
     where
@@ -133,19 +133,19 @@ module _ (p : ℕ) (launches : Launches) (watch : Watch) (long : 2 ≤ p) (cycli
       by (some, by_all w more all is) = inr (here watch.windows w more is placed all)
       by (some, by_window found) = inr (some_of (λ w. is_broken (at w).slack ≡ true) (IsTouched ev) (IsPlaced p) touches watch.windows placed found)
 
-  breaks_never : watch.never ≡ true → SomeTick ev → (way : Option ℤ) (at : Window → Told) → IsBroken (told_by at way p watch)
+  breaks_never : watch.never ≡ true → SomeTick ev → (way : Option ℤ) (at : Window → Finding) → IsBroken (finding_by at way p watch)
   breaks_never never some way at =
       let event = in_some_slot p ev cyclic long some.tick some.tick (omega (arith, long)) some.is in
       by (some_event p ev) event (all_events p ev) watch.never never
     where
       by : (a : Bool) → a ≡ true → (b n : Bool) → n ≡ true →
-          IsBroken (cond (a && is_met watch.windows n) (cond (b || n) (told_alone (without_number n way)) (least (map at watch.windows))) (told_alone Free))
+          IsBroken (cond (a && is_met watch.windows n) (cond (b || n) (finding_alone (without_number n way)) (least (map at watch.windows))) (finding_alone Free))
       by false h b n h' = absurd (cc)
       by true h b false h' = absurd (cc)
       by true h true true h' = refl
       by true h false true h' = refl
 
-  breaks_some : SomeOf (IsTouched ev) watch.windows → IsBroken (told_before p launches watch) ⊎ IsBroken (told_after p launches watch)
+  breaks_some : SomeOf (IsTouched ev) watch.windows → IsBroken (finding_before p launches watch) ⊎ IsBroken (finding_after p launches watch)
   breaks_some found =
       by (some_event p ev) (some_slot watch.windows found) (all_events p ev) refl (is_met watch.windows watch.never) (not_empty (IsTouched ev) watch.windows watch.never (IsTouched ev) found) watch.never
     where
@@ -155,8 +155,8 @@ module _ (p : ℕ) (launches : Launches) (watch : Watch) (long : 2 ≤ p) (cycli
       some_slot (w ∷ ws) (inr more) = some_slot ws more
 
       by : (a : Bool) → a ≡ true → (b : Bool) → all_events p ev ≡ b → (m : Bool) → m ≡ true → (n : Bool) →
-          IsBroken (cond (a && m) (cond (b || n) (told_alone (without_number n launches.last_way)) (least (map before watch.windows))) (told_alone Free))
-          ⊎ IsBroken (cond (a && m) (cond (b || n) (told_alone (without_number n launches.first_way)) (least (map after watch.windows))) (told_alone Free))
+          IsBroken (cond (a && m) (cond (b || n) (finding_alone (without_number n launches.last_way)) (least (map before watch.windows))) (finding_alone Free))
+          ⊎ IsBroken (cond (a && m) (cond (b || n) (finding_alone (without_number n launches.first_way)) (least (map after watch.windows))) (finding_alone Free))
       by false h b is m h' n = absurd (cc)
       by true h b is false h' n = absurd (cc)
       by true h true is true h' n = inl (number_breaks n launches.last_way)
@@ -165,8 +165,8 @@ module _ (p : ℕ) (launches : Launches) (watch : Watch) (long : 2 ≤ p) (cycli
           let (z, none, below) = some_gap p ev cyclic long is in
           elim (either_of (λ w. is_broken (before w).slack ≡ true) (λ w. is_broken (after w).slack ≡ true) (IsTouched ev) (IsPlaced p)
           (λ w at touched. touched_breaks p ev cyclic long launches w z none below at touched) watch.windows placed found) [
-            | inl some ↦ inl (least_breaks before (told_alone Free) watch.windows (inr some))
-            | inr some ↦ inr (least_breaks after (told_alone Free) watch.windows (inr some))
+            | inl some ↦ inl (least_breaks before (finding_alone Free) watch.windows (inr some))
+            | inr some ↦ inr (least_breaks after (finding_alone Free) watch.windows (inr some))
           ]
 
 pub broken_where_touched : BrokenWhereTouched

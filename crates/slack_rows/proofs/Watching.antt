@@ -18,13 +18,13 @@ use Rattle.critical_paths.specs.Views.{passing, ticks_of_region}
 use Rattle.critical_paths.proofs.Runs.{first_tick}
 use Rattle.slack_rows.specs.declared.window.Extent.{Extent}
 use Rattle.slack_rows.specs.declared.slack.Slacks.{Slacks}
-use Rattle.slack_rows.specs.declared.slack.Told.{Told as Found}
+use Rattle.slack_rows.specs.declared.slack.Finding.{Finding as Found}
 use Rattle.slack_rows.specs.Window.{Window, about}
-use Rattle.slack_rows.specs.Slack.{Free, Launches, NoNumber, Told, Watch, after_window, before_window, by_way, is_broken, is_free, is_met, least, told_after, told_alone, told_before, told_by, told_of, two_in, without_number}
+use Rattle.slack_rows.specs.Slack.{Free, Launches, NoNumber, Finding, Watch, after_window, before_window, by_way, is_broken, is_free, is_met, least, finding_after, finding_alone, finding_before, finding_by, finding_of, two_in, without_number}
 use Rattle.slack_rows.specs.Limit.{is_by_arrivals}
-use Rattle.slack_rows.specs.Views.{IsTold, Tells, ahead_of, is_starred, slack_told, window_about, window_in}
+use Rattle.slack_rows.specs.Views.{IsFinding, Tells, ahead_of, is_starred, slack_finding, window_about, window_in}
 use Rattle.slack_rows.specs.Held.{AreAlike, AreChanges, AreOfWays, AreSlots, IsInPeriod, IsSlots, TellWatch, TellWindows, lacking, windows_about}
-use Rattle.slack_rows.proofs.Alike.{alike_broken, alike_none, alike_told, starred_break, starred_broken, starred_free}
+use Rattle.slack_rows.proofs.Alike.{alike_broken, alike_none, alike_finding, starred_break, starred_broken, starred_free}
 use Rattle.slack_rows.proofs.Checkers.{region_ends}
 use Rattle.slack_rows.proofs.Regions.{covered}
 use Rattle.slack_rows.proofs.Watched.{every, in_some_slot, some_gap, some_tick}
@@ -217,9 +217,9 @@ windows_are p limits (r ∷ rs) short =
 
 -- ---- what is told of a watch
 
-abbrev told_cases : Bool → Bool → Bool → Option ℤ → Told → Told
-told_cases some all never way windows =
-    cond some (cond (all || never) (told_alone (without_number never way)) windows) (told_alone Free)
+abbrev finding_cases : Bool → Bool → Bool → Option ℤ → Finding → Finding
+finding_cases some all never way windows =
+    cond some (cond (all || never) (finding_alone (without_number never way)) windows) (finding_alone Free)
 
 or_true : (a : Bool) → (a || true) ≡ true
 or_true true = refl
@@ -233,61 +233,61 @@ met_never : (windows : List Window) → is_met windows true ≡ true
 met_never [] = refl
 met_never (w ∷ windows) = refl
 
-module _ (at : Window → Told) (p : ℕ) (watch : Watch) where
+module _ (at : Window → Finding) (p : ℕ) (watch : Watch) where
   -- no change, or no window
-  pub told_free : (way : Option ℤ) → some_event p watch.changes ≡ false → told_by at way p watch ≡ told_alone Free
-  told_free way none =
-      ap (λ (s : Bool). told_cases (s && is_met watch.windows watch.never) (all_events p watch.changes) watch.never way (least (map at watch.windows))) none
+  pub finding_free : (way : Option ℤ) → some_event p watch.changes ≡ false → finding_by at way p watch ≡ finding_alone Free
+  finding_free way none =
+      ap (λ (s : Bool). finding_cases (s && is_met watch.windows watch.never) (all_events p watch.changes) watch.never way (least (map at watch.windows))) none
 
-  pub told_unmet : (way : Option ℤ) → watch.windows ≡ [] → watch.never ≡ false → told_by at way p watch ≡ told_alone Free
-  told_unmet way none never =
-      (λ i. told_cases (some_event p watch.changes && is_met (none i) (never i)) (all_events p watch.changes) watch.never way (least (map at watch.windows)))
-      ∙ ap (λ (s : Bool). told_cases s (all_events p watch.changes) watch.never way (least (map at watch.windows))) (and_false (some_event p watch.changes))
+  pub finding_unmet : (way : Option ℤ) → watch.windows ≡ [] → watch.never ≡ false → finding_by at way p watch ≡ finding_alone Free
+  finding_unmet way none never =
+      (λ i. finding_cases (some_event p watch.changes && is_met (none i) (never i)) (all_events p watch.changes) watch.never way (least (map at watch.windows)))
+      ∙ ap (λ (s : Bool). finding_cases s (all_events p watch.changes) watch.never way (least (map at watch.windows))) (and_false (some_event p watch.changes))
 
-  pub told_without : (way : Option ℤ) → some_event p watch.changes ≡ true → watch.never ≡ true → told_by at way p watch ≡ told_alone NoNumber
-  told_without way some never =
-      (λ i. told_cases (some i && is_met watch.windows (never i)) (all_events p watch.changes) (never i) way (least (map at watch.windows)))
-      ∙ ap (λ (s : Bool). told_cases s (all_events p watch.changes) true way (least (map at watch.windows))) (met_never watch.windows)
-      ∙ ap (λ (s : Bool). cond s (told_alone NoNumber) (least (map at watch.windows))) (or_true (all_events p watch.changes))
+  pub finding_without : (way : Option ℤ) → some_event p watch.changes ≡ true → watch.never ≡ true → finding_by at way p watch ≡ finding_alone NoNumber
+  finding_without way some never =
+      (λ i. finding_cases (some i && is_met watch.windows (never i)) (all_events p watch.changes) (never i) way (least (map at watch.windows)))
+      ∙ ap (λ (s : Bool). finding_cases s (all_events p watch.changes) true way (least (map at watch.windows))) (met_never watch.windows)
+      ∙ ap (λ (s : Bool). cond s (finding_alone NoNumber) (least (map at watch.windows))) (or_true (all_events p watch.changes))
 
-  pub told_windows : (way : Option ℤ) → some_event p watch.changes ≡ true → all_events p watch.changes ≡ false → watch.never ≡ false →
-      told_by at way p watch ≡ least (map at watch.windows)
-  told_windows way some all never =
-      (λ i. told_cases (some i && is_met watch.windows (never i)) (all i) (never i) way (least (map at watch.windows))) ∙ by watch.windows
+  pub finding_windows : (way : Option ℤ) → some_event p watch.changes ≡ true → all_events p watch.changes ≡ false → watch.never ≡ false →
+      finding_by at way p watch ≡ least (map at watch.windows)
+  finding_windows way some all never =
+      (λ i. finding_cases (some i && is_met watch.windows (never i)) (all i) (never i) way (least (map at watch.windows))) ∙ by watch.windows
     where
-      by : (windows : List Window) → told_cases (is_met windows false) false false way (least (map at windows)) ≡ least (map at windows)
+      by : (windows : List Window) → finding_cases (is_met windows false) false false way (least (map at windows)) ≡ least (map at windows)
       by [] = refl
       by (w ∷ windows) = refl
 
   -- where changes may always come, and nothing is known of ways
-  pub told_always : some_event p watch.changes ≡ true → all_events p watch.changes ≡ true → watch.never ≡ false → (watch.windows ≡ [] → ⊥) →
-      told_by at None p watch ≡ told_alone NoNumber
-  told_always some all never met =
-      (λ i. told_cases (some i && is_met watch.windows (never i)) (all i) (never i) None (least (map at watch.windows))) ∙ by watch.windows met
+  pub finding_always : some_event p watch.changes ≡ true → all_events p watch.changes ≡ true → watch.never ≡ false → (watch.windows ≡ [] → ⊥) →
+      finding_by at None p watch ≡ finding_alone NoNumber
+  finding_always some all never met =
+      (λ i. finding_cases (some i && is_met watch.windows (never i)) (all i) (never i) None (least (map at watch.windows))) ∙ by watch.windows met
     where
-      by : (windows : List Window) → (windows ≡ [] → ⊥) → told_cases (is_met windows false) true false None (least (map at windows)) ≡ told_alone NoNumber
+      by : (windows : List Window) → (windows ≡ [] → ⊥) → finding_cases (is_met windows false) true false None (least (map at windows)) ≡ finding_alone NoNumber
       by [] met = absurd (met refl)
       by (w ∷ windows) met = refl
 
   -- changes may always come, about some window
-  pub told_starred : (way : Option ℤ) → some_event p watch.changes ≡ true → all_events p watch.changes ≡ true → watch.never ≡ false →
-      is_met watch.windows false ≡ true → told_by at way p watch ≡ told_alone (by_way way)
-  told_starred way some all never met =
-      (λ i. told_cases (some i && is_met watch.windows (never i)) (all i) (never i) way (least (map at watch.windows)))
-      ∙ ap (λ (m : Bool). told_cases m true false way (least (map at watch.windows))) met
+  pub finding_starred : (way : Option ℤ) → some_event p watch.changes ≡ true → all_events p watch.changes ≡ true → watch.never ≡ false →
+      is_met watch.windows false ≡ true → finding_by at way p watch ≡ finding_alone (by_way way)
+  finding_starred way some all never met =
+      (λ i. finding_cases (some i && is_met watch.windows (never i)) (all i) (never i) way (least (map at watch.windows)))
+      ∙ ap (λ (m : Bool). finding_cases m true false way (least (map at watch.windows))) met
 
 pub way_starred : (way : Option ℤ) → is_starred (by_way way) ≡ true
 way_starred None = refl
 way_starred (Some n) = refl
 
 -- whatever is known of ways, where they have no say
-pub same_ways : (at : Window → Told) (p : ℕ) (watch : Watch) (way other : Option ℤ) →
-    (all_events p watch.changes && is_met watch.windows false) ≡ false → told_by at way p watch ≡ told_by at other p watch
+pub same_ways : (at : Window → Finding) (p : ℕ) (watch : Watch) (way other : Option ℤ) →
+    (all_events p watch.changes && is_met watch.windows false) ≡ false → finding_by at way p watch ≡ finding_by at other p watch
 same_ways at p watch way other exact = by (some_event p watch.changes) (all_events p watch.changes) watch.windows watch.never exact
   where
     by : (some all : Bool) (windows : List Window) (never : Bool) → (all && is_met windows false) ≡ false →
-        told_cases (some && is_met windows never) all never way (least (map at windows))
-        ≡ told_cases (some && is_met windows never) all never other (least (map at windows))
+        finding_cases (some && is_met windows never) all never way (least (map at windows))
+        ≡ finding_cases (some && is_met windows never) all never other (least (map at windows))
     by false all windows never exact = refl
     by true all [] true exact = refl
     by true all [] false exact = refl
@@ -296,16 +296,16 @@ same_ways at p watch way other exact = by (some_event p watch.changes) (all_even
     by true false (w ∷ windows) false exact = refl
 
 -- Whatever is known of ways: whether something can break it, and whether it is broken.
-pub alike_ways : (at : Window → Told) (p : ℕ) (watch : Watch) (way other : Option ℤ) →
-    (is_free (told_by at way p watch).slack ≡ is_free (told_by at other p watch).slack)
-    × (is_broken (told_by at way p watch).slack ≡ is_broken (told_by at other p watch).slack)
+pub alike_ways : (at : Window → Finding) (p : ℕ) (watch : Watch) (way other : Option ℤ) →
+    (is_free (finding_by at way p watch).slack ≡ is_free (finding_by at other p watch).slack)
+    × (is_broken (finding_by at way p watch).slack ≡ is_broken (finding_by at other p watch).slack)
 alike_ways at p watch way other = by (some_event p watch.changes) (all_events p watch.changes) watch.windows watch.never
   where
     by : (some all : Bool) (windows : List Window) (never : Bool) →
-        (is_free (told_cases (some && is_met windows never) all never way (least (map at windows))).slack
-        ≡ is_free (told_cases (some && is_met windows never) all never other (least (map at windows))).slack)
-        × (is_broken (told_cases (some && is_met windows never) all never way (least (map at windows))).slack
-        ≡ is_broken (told_cases (some && is_met windows never) all never other (least (map at windows))).slack)
+        (is_free (finding_cases (some && is_met windows never) all never way (least (map at windows))).slack
+        ≡ is_free (finding_cases (some && is_met windows never) all never other (least (map at windows))).slack)
+        × (is_broken (finding_cases (some && is_met windows never) all never way (least (map at windows))).slack
+        ≡ is_broken (finding_cases (some && is_met windows never) all never other (least (map at windows))).slack)
     by false all windows never = (refl, refl)
     by true all [] true = (refl, refl)
     by true all [] false = (refl, refl)
@@ -319,10 +319,10 @@ alike_ways at p watch way other = by (some_event p watch.changes) (all_events p 
 -- ---- in the program's words
 
 -- nothing is told where nothing can break
-pub tells_free : (p pin : ℕ) (d : Direction) (told : Told) (found : Option Found) → told ≡ told_alone Free → found ≡ None →
-    Tells p found (told_of pin d told)
-tells_free p pin d told found is none =
-    subst (λ (o : Option Found). Tells p o (told_of pin d told)) (sym none) (ap (λ (t : Told). t.slack) is)
+pub tells_free : (p pin : ℕ) (d : Direction) (finding : Finding) (found : Option Found) → finding ≡ finding_alone Free → found ≡ None →
+    Tells p found (finding_of pin d finding)
+tells_free p pin d finding found is none =
+    subst (λ (o : Option Found). Tells p o (finding_of pin d finding)) (sym none) (ap (λ (t : Finding). t.slack) is)
 
 pub or_parts : (a b : Bool) → (a || b) ≡ false → (a ≡ false) × (b ≡ false)
 or_parts true b is = absurd (cc)
@@ -338,10 +338,10 @@ met_edges f [] = refl
 met_edges f (e ∷ edges) = ap not (ne_eqb (suc (length edges)) 0 (λ same. absurd (omega (arith, same))))
 
 module _ (p : ℕ) (launches : Launches) (two : Window → Region → Bool) (pin : ℕ) (d : Direction) (watch : Watch) (found : Slacks) where
-  abbrev before : Window → Told
+  abbrev before : Window → Finding
   before = before_window p watch.changes launches
 
-  abbrev after : Window → Told
+  abbrev after : Window → Finding
   after = after_window p watch.changes launches
 
   -- of a watch whose windows these are
@@ -349,11 +349,11 @@ module _ (p : ℕ) (launches : Launches) (two : Window → Region → Bool) (pin
       (level : found.level ≡ None)
       (tells : all_events p watch.changes ≡ false → TellWindows p watch.changes launches two pin d windows found)
       (ways : all_events p watch.changes ≡ true → AreOfWays (is_met watch.windows false) found) where
-    windows_before : all_events p watch.changes ≡ false → told_before p launches watch ≡ least (map before windows)
-    windows_before all = told_windows before p watch launches.last_way some all never ∙ ap (λ (ws : List Window). least (map before ws)) (sym are)
+    windows_before : all_events p watch.changes ≡ false → finding_before p launches watch ≡ least (map before windows)
+    windows_before all = finding_windows before p watch launches.last_way some all never ∙ ap (λ (ws : List Window). least (map before ws)) (sym are)
 
-    windows_after : all_events p watch.changes ≡ false → told_after p launches watch ≡ least (map after windows)
-    windows_after all = told_windows after p watch launches.first_way some all never ∙ ap (λ (ws : List Window). least (map after ws)) (sym are)
+    windows_after : all_events p watch.changes ≡ false → finding_after p launches watch ≡ least (map after windows)
+    windows_after all = finding_windows after p watch launches.first_way some all never ∙ ap (λ (ws : List Window). least (map after ws)) (sym are)
 
     exact_parts : is_by_arrivals p two watch ≡ false →
         ((all_events p watch.changes && is_met watch.windows false) ≡ false) × (list_any (two_in p watch.changes two) watch.windows ≡ false)
@@ -363,48 +363,48 @@ module _ (p : ℕ) (launches : Launches) (two : Window → Region → Bool) (pin
     unmet all exact = ap (λ (b : Bool). b && is_met watch.windows false) (sym all) ∙ (exact_parts exact).0
 
     exact_before : (b : Bool) → all_events p watch.changes ≡ b → is_by_arrivals p two watch ≡ false →
-        Tells p found.before (told_of pin d (told_before p launches watch))
+        Tells p found.before (finding_of pin d (finding_before p launches watch))
     exact_before false all exact =
-        let told = tells all in
-        subst (Tells p found.before) (ap (told_of pin d) (sym (windows_before all)))
-        (told.before (ap (list_any (two_in p watch.changes two)) are ∙ (exact_parts exact).1))
+        let finding = tells all in
+        subst (Tells p found.before) (ap (finding_of pin d) (sym (windows_before all)))
+        (finding.before (ap (list_any (two_in p watch.changes two)) are ∙ (exact_parts exact).1))
     exact_before true all exact =
         let none = subst (λ (b : Bool). AreOfWays b found) (unmet all exact) (ways all) in
-        tells_free p pin d (told_before p launches watch) found.before
-        (told_unmet before p watch launches.last_way (no_window watch.windows (unmet all exact)) never) none.0
+        tells_free p pin d (finding_before p launches watch) found.before
+        (finding_unmet before p watch launches.last_way (no_window watch.windows (unmet all exact)) never) none.0
 
     exact_after : (b : Bool) → all_events p watch.changes ≡ b → is_by_arrivals p two watch ≡ false →
-        Tells p found.after (told_of pin d (told_after p launches watch))
+        Tells p found.after (finding_of pin d (finding_after p launches watch))
     exact_after false all exact =
-        let told = tells all in
-        subst (Tells p found.after) (ap (told_of pin d) (sym (windows_after all)))
-        (told.after (ap (list_any (two_in p watch.changes two)) are ∙ (exact_parts exact).1))
+        let finding = tells all in
+        subst (Tells p found.after) (ap (finding_of pin d) (sym (windows_after all)))
+        (finding.after (ap (list_any (two_in p watch.changes two)) are ∙ (exact_parts exact).1))
     exact_after true all exact =
         let none = subst (λ (b : Bool). AreOfWays b found) (unmet all exact) (ways all) in
-        tells_free p pin d (told_after p launches watch) found.after
-        (told_unmet after p watch launches.first_way (no_window watch.windows (unmet all exact)) never) none.1
+        tells_free p pin d (finding_after p launches watch) found.after
+        (finding_unmet after p watch launches.first_way (no_window watch.windows (unmet all exact)) never) none.1
 
     alike_always : all_events p watch.changes ≡ true → (b : Bool) → is_met watch.windows false ≡ b →
-        AreAlike found (told_before p launches watch).slack (told_after p launches watch).slack
+        AreAlike found (finding_before p launches watch).slack (finding_after p launches watch).slack
     alike_always all false none =
         let free = subst (λ (b : Bool). AreOfWays b found) none (ways all) in
-        alike_none found (told_before p launches watch).slack (told_after p launches watch).slack free.0 free.1
-        (ap (λ (t : Told). t.slack) (told_unmet before p watch launches.last_way (no_window watch.windows none) never))
-        (ap (λ (t : Told). t.slack) (told_unmet after p watch launches.first_way (no_window watch.windows none) never))
+        alike_none found (finding_before p launches watch).slack (finding_after p launches watch).slack free.0 free.1
+        (ap (λ (t : Finding). t.slack) (finding_unmet before p watch launches.last_way (no_window watch.windows none) never))
+        (ap (λ (t : Finding). t.slack) (finding_unmet after p watch launches.first_way (no_window watch.windows none) never))
     alike_always all true met =
         let starred = subst (λ (b : Bool). AreOfWays b found) met (ways all) in
-        alike_broken found (told_before p launches watch).slack (told_after p launches watch).slack
-        (starred_break (slack_told found.before) (slack_told found.after) starred.0 starred.1)
-        (starred_break (told_before p launches watch).slack (told_after p launches watch).slack
-        (ap (λ (t : Told). is_starred t.slack) (told_starred before p watch launches.last_way some all never met) ∙ way_starred launches.last_way)
-        (ap (λ (t : Told). is_starred t.slack) (told_starred after p watch launches.first_way some all never met) ∙ way_starred launches.first_way))
+        alike_broken found (finding_before p launches watch).slack (finding_after p launches watch).slack
+        (starred_break (slack_finding found.before) (slack_finding found.after) starred.0 starred.1)
+        (starred_break (finding_before p launches watch).slack (finding_after p launches watch).slack
+        (ap (λ (t : Finding). is_starred t.slack) (finding_starred before p watch launches.last_way some all never met) ∙ way_starred launches.last_way)
+        (ap (λ (t : Finding). is_starred t.slack) (finding_starred after p watch launches.first_way some all never met) ∙ way_starred launches.first_way))
 
     alike : (b : Bool) → all_events p watch.changes ≡ b →
-        AreAlike found (told_before p launches watch).slack (told_after p launches watch).slack
+        AreAlike found (finding_before p launches watch).slack (finding_after p launches watch).slack
     alike false all =
-        let told = tells all in
-        subst (λ (t : Told). AreAlike found t.slack (told_after p launches watch).slack) (sym (windows_before all))
-        (subst (λ (t : Told). AreAlike found (least (map before windows)).slack t.slack) (sym (windows_after all)) told.alike)
+        let finding = tells all in
+        subst (λ (t : Finding). AreAlike found t.slack (finding_after p launches watch).slack) (sym (windows_before all))
+        (subst (λ (t : Finding). AreAlike found (least (map before windows)).slack t.slack) (sym (windows_after all)) finding.alike)
     alike true all = alike_always all (is_met watch.windows false) refl
 
     pub tell_watch : TellWatch p launches (is_by_arrivals p two watch) pin d watch found
@@ -417,17 +417,17 @@ module _ (p : ℕ) (launches : Launches) (two : Window → Region → Bool) (pin
         }
 
   -- of one that is never to change
-  module _ (told : Found) (some : some_event p watch.changes ≡ true) (never : watch.never ≡ true) (told_is : IsTold p told (told_of pin d (told_alone NoNumber)))
-      (is : found ≡ record { level = None; before = Some told; after = Some told }) where
-    never_before : Tells p found.before (told_of pin d (told_before p launches watch))
+  module _ (finding : Found) (some : some_event p watch.changes ≡ true) (never : watch.never ≡ true) (finding_is : IsFinding p finding (finding_of pin d (finding_alone NoNumber)))
+      (is : found ≡ record { level = None; before = Some finding; after = Some finding }) where
+    never_before : Tells p found.before (finding_of pin d (finding_before p launches watch))
     never_before =
-        subst (λ (o : Option Found). Tells p o (told_of pin d (told_before p launches watch))) (sym (ap (λ (s : Slacks). s.before) is))
-        (subst (IsTold p told) (sym (ap (told_of pin d) (told_without before p watch launches.last_way some never))) told_is)
+        subst (λ (o : Option Found). Tells p o (finding_of pin d (finding_before p launches watch))) (sym (ap (λ (s : Slacks). s.before) is))
+        (subst (IsFinding p finding) (sym (ap (finding_of pin d) (finding_without before p watch launches.last_way some never))) finding_is)
 
-    never_after : Tells p found.after (told_of pin d (told_after p launches watch))
+    never_after : Tells p found.after (finding_of pin d (finding_after p launches watch))
     never_after =
-        subst (λ (o : Option Found). Tells p o (told_of pin d (told_after p launches watch))) (sym (ap (λ (s : Slacks). s.after) is))
-        (subst (IsTold p told) (sym (ap (told_of pin d) (told_without after p watch launches.first_way some never))) told_is)
+        subst (λ (o : Option Found). Tells p o (finding_of pin d (finding_after p launches watch))) (sym (ap (λ (s : Slacks). s.after) is))
+        (subst (IsFinding p finding) (sym (ap (finding_of pin d) (finding_without after p watch launches.first_way some never))) finding_is)
 
     pub tell_never : TellWatch p launches (is_by_arrivals p two watch) pin d watch found
     tell_never =
@@ -435,6 +435,6 @@ module _ (p : ℕ) (launches : Launches) (two : Window → Region → Bool) (pin
           level = ap (λ (s : Slacks). s.level) is;
           before = λ exact. never_before;
           after = λ exact. never_after;
-          alike = alike_told p found (told_of pin d (told_before p launches watch)) (told_of pin d (told_after p launches watch))
+          alike = alike_finding p found (finding_of pin d (finding_before p launches watch)) (finding_of pin d (finding_after p launches watch))
               never_before never_after;
         }

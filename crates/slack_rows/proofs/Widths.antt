@@ -9,7 +9,7 @@ use Rattle.gate_eval.specs.Hold.{first_some}
 use Rattle.gate_eval.proofs.Found.{first_some_some}
 use Rattle.pulse_check.specs.Pulse.{Slots, first_narrow, least_width, may_be_wide, may_begin, narrow_at}
 use Rattle.point_check.proofs.Firsts.{first_some_is}
-use Rattle.slack_rows.specs.Pulse.{Pulse, narrower, narrowest, narrowest_of, told_pulse, width_of}
+use Rattle.slack_rows.specs.Pulse.{Pulse, narrower, narrowest, narrowest_of, finding_pulse, width_of}
 use Rattle.slack_rows.specs.Slack.{is_broken}
 use Rattle.slack_rows.specs.Laws.{IsBroken}
 use Rattle.slack_rows.proofs.Windows.{below_zero, false_lt, not_below_zero, true_lt}
@@ -237,22 +237,22 @@ module _ (p : ℕ) (level : Bool) (wave : Slots) where
       by false = below_zero pulse.1 limit narrow
 
   pub width_breaks : (limit : ℕ) (left : Option ℤ) → IsSwallowed left → limit ≤ p →
-      (is_some (first_narrow p level wave limit) ≡ true) ↔ IsBroken (told_pulse limit left (narrowest p level wave))
+      (is_some (first_narrow p level wave limit) ≡ true) ↔ IsBroken (finding_pulse limit left (narrowest p level wave))
   width_breaks limit left swallowed short =
-      (λ some. told (first_is_narrow limit some), λ broken. found (narrowest p level wave) refl broken)
+      (λ some. finding (first_is_narrow limit some), λ broken. found (narrowest p level wave) refl broken)
     where
-      told : IsNarrow p level wave limit → IsBroken (told_pulse limit left (narrowest p level wave))
-      told n =
+      finding : IsNarrow p level wave limit → IsBroken (finding_pulse limit left (narrowest p level wave))
+      finding n =
           let below = n.below in
           let narrow = n.narrow in
           let least = narrow_least limit p n short in
           let most = least.most in
           let no_wider = in_range p p 0 n.start (n.start, least.width) (omega arith) (omega (arith, below)) least.is in
           let under = no_wider.most in
-          ap (λ (o : Option Pulse). is_broken (told_pulse limit left o).slack) no_wider.is
+          ap (λ (o : Option Pulse). is_broken (finding_pulse limit left o).slack) no_wider.is
           ∙ narrow_broken limit no_wider.pulse left swallowed (omega (arith, narrow, most, under))
 
-      found : (o : Option Pulse) → narrowest p level wave ≡ o → IsBroken (told_pulse limit left o) → is_some (first_narrow p level wave limit) ≡ true
+      found : (o : Option Pulse) → narrowest p level wave ≡ o → IsBroken (finding_pulse limit left o) → is_some (first_narrow p level wave limit) ≡ true
       found None is none = absurd (cc)
       found (Some pulse) is broken =
           let narrow = broken_narrow limit pulse left broken in

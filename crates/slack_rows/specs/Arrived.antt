@@ -27,11 +27,11 @@ use Rattle.slack_rows.specs.declared.slack.Slack.{Slack as Number}
 use Rattle.slack_rows.specs.declared.slack.Reason.TheVariants.{Data, DataLoop}
 use Rattle.slack_rows.specs.declared.slack.Slack.TheVariants.{Ticks as NumberOfTicks, Way as NumberOfWay}
 use Rattle.slack_rows.specs.declared.slack.Slacks.{Slacks}
-use Rattle.slack_rows.specs.declared.slack.Told.{Told as Found}
+use Rattle.slack_rows.specs.declared.slack.Finding.{Finding as Found}
 use Rattle.slack_rows.specs.declared.ways.Least.{Least}
 use Rattle.slack_rows.specs.declared.ways.Sought.{Sought}
 use Rattle.slack_rows.specs.declared.window.Window.{Window as Ticks}
-use Rattle.slack_rows.specs.Views.{lesser_found, spare_at, told_none}
+use Rattle.slack_rows.specs.Views.{lesser_found, spare_at, finding_none}
 use Rattle.slack_rows.specs.Way.{since_last, until_next}
 
 -- ---- what is known of arrivals at a pin
@@ -114,8 +114,8 @@ both_of (Some held) None = None
 both_of (Some held) (Some region) = Some (held, region)
 
 -- the slack of an arrival in a window
-abbrev pub told_by_arrival : Held → Number → Ticks → Arrived → Found
-told_by_arrival held slack w a =
+abbrev pub finding_by_arrival : Held → Number → Ticks → Arrived → Found
+finding_by_arrival held slack w a =
     record {
       slack = slack;
       window = w;
@@ -133,9 +133,9 @@ slacks_by_two held w late early =
     then None
     else Some (record {
       level = None;
-      before = Some (told_by_arrival held
+      before = Some (finding_by_arrival held
           (NumberOfTicks (spare_at LateCorner w late.tick)) w late);
-      after = Some (told_by_arrival held
+      after = Some (finding_by_arrival held
           (NumberOfTicks (spare_at EarlyCorner w early.tick)) w early);
     })
 
@@ -189,26 +189,26 @@ is_nearer corner p launch edge other =
     (other.net == edge.net)
     && int_lt (distance_of corner p launch other.ideal) (distance_of corner p launch edge.ideal)
 
-abbrev pub told_spare : Sought → Arrived → Found
-told_spare sought a =
-    told_by_arrival sought.held
+abbrev pub finding_spare : Sought → Arrived → Found
+finding_spare sought a =
+    finding_by_arrival sought.held
     (NumberOfWay (spare_at sought.corner sought.edge.window a.tick)) sought.edge.window a
 
 -- of one against the edge that its launch is for, in the period in which the edge is known
-abbrev pub told_way : ℕ → Sought → ℤ → Arrived → Found
-told_way p sought launch a =
-    told_spare sought (moved a (a.tick -ℤ moved_by sought.corner p launch sought.edge.ideal))
+abbrev pub finding_way : ℕ → Sought → ℤ → Arrived → Found
+finding_way p sought launch a =
+    finding_spare sought (moved a (a.tick -ℤ moved_by sought.corner p launch sought.edge.ideal))
 
 -- with that, if the edge is the one that the launch is for
 abbrev pub with_way : Bool → Option Found → Found → Option Found
-with_way true best told = lesser_found best (Some told)
-with_way false best told = best
+with_way true best finding = lesser_found best (Some finding)
+with_way false best finding = best
 
 -- with that of an arrival at a net, against an edge of some
 abbrev pub with_arrival : ℕ → ℕ → List Guard → Sought → Option Found → Arrived → Option Found
 with_arrival p wire edges sought best a =
     with_way (not (list_any (is_nearer sought.corner p a.ideal sought.edge) edges)) best
-    (told_way p sought a.ideal (behind_wire wire a))
+    (finding_way p sought a.ideal (behind_wire wire a))
 
 -- with those of all arrivals; without them a way comes from a loop
 abbrev pub with_ways : ℕ → ℕ → List Guard → Sought → Least → Option (List Arrived) → Least
@@ -230,14 +230,14 @@ with_guard c entries all edges held corner so_far edge =
     (sought_at held corner edge) so_far
     (arrivals_on entries all (place_on edge.net corner held.pin.target))
 
-abbrev pub told_least : Held → Least → Found
-told_least held least = unwrap_or least.best (told_none least.reason held.place Change)
+abbrev pub finding_least : Held → Least → Found
+finding_least held least = unwrap_or least.best (finding_none least.reason held.place Change)
 
 -- the least of one side over all edges
-abbrev pub told_side : Circuit → List (Place × Known) → List Near → Held → Corner → List Guard →
+abbrev pub finding_side : Circuit → List (Place × Known) → List Near → Held → Corner → List Guard →
     Found
-told_side c entries all held corner edges =
-    told_least held (fold (with_guard c entries all edges held corner)
+finding_side c entries all held corner edges =
+    finding_least held (fold (with_guard c entries all edges held corner)
     (record { best = None; reason = Data }) edges)
 
 -- the arrivals from each edge are worked out

@@ -34,18 +34,18 @@ use Rattle.slack_rows.specs.declared.slack.Slacks.{Slacks}
 use Rattle.slack_rows.specs.declared.window.Window.{Window as Ticks}
 use Rattle.slack_rows.specs.declared.window.Extent.{Extent}
 use Rattle.slack_rows.specs.Window.{Side, Either, Window, about, counts_after, counts_before, meets, extent_of}
-use Rattle.slack_rows.specs.Slack.{Launches, Slack, Told, Watch, after_window, is_broken, is_free, before_window, is_open, least, no_launches, told_after, told_before, told_of, two_in}
-use Rattle.slack_rows.specs.Limit.{beside_by_arrivals, in_windows, is_beside, told_never, told_pin}
+use Rattle.slack_rows.specs.Slack.{Launches, Slack, Finding, Watch, after_window, is_broken, is_free, before_window, is_open, least, no_launches, finding_after, finding_before, finding_of, two_in}
+use Rattle.slack_rows.specs.Limit.{beside_by_arrivals, in_windows, is_beside, finding_never, finding_pin}
 use Rattle.slack_rows.specs.declared.parameter.Word.TheVariants.{Gate, Before as GateBefore, After as GateAfter}
 use Rattle.slack_rows.specs.declared.slack.Reason.{Reason}
 use Rattle.slack_rows.specs.declared.slack.Reason.TheVariants.{Data as ByData, Level, Mark as ByMark, Still as ByAssertion}
-use Rattle.slack_rows.specs.declared.slack.Told.{Told as Found}
+use Rattle.slack_rows.specs.declared.slack.Finding.{Finding as Found}
 use Rattle.step_values.specs.Steps.{has}
 use Rattle.step_values.specs.declared.value.Value.{Value}
 use Rattle.flat_circuit.specs.declared.instance.Instance.{Instance}
 use Rattle.point_check.specs.Window.{Folds}
 use Rattle.slack_rows.specs.Launched.{are_two, side_by, two_by}
-use Rattle.slack_rows.specs.Views.{Tells, ahead_of, counts_first, counts_last, is_starred, is_two, meets_window, region_in, slack_told, told_none, window_about, window_in}
+use Rattle.slack_rows.specs.Views.{Tells, ahead_of, counts_first, counts_last, is_starred, is_two, meets_window, region_in, slack_finding, finding_none, window_about, window_in}
 
 -- the ideal edge that a step comes from which the pin shows at a tick
 abbrev pub edge_at_pin : Circuit → Waves → Corner → Pin → Direction → ℕ → Option Edge
@@ -89,8 +89,8 @@ launches_of c ws (Some held) =
     }
 
 -- an edge as the program counts its tick, so many ticks before
-abbrev pub told_back : ℕ → Edge → ℕ × ℤ
-told_back ticks e = (e.net, e.tick -ℤ pos ticks)
+abbrev pub finding_back : ℕ → Edge → ℕ × ℤ
+finding_back ticks e = (e.net, e.tick -ℤ pos ticks)
 
 -- a path that the program has found, if it has found one
 abbrev pub IsNearPath : List Node → Option At → Type 0
@@ -218,9 +218,9 @@ pub record AreChanges (p : ℕ) (ev : Events) (changes : List Ticked) : Type 0 w
 -- The slacks of two sides, as far as arrivals have no say in it: of each whether something can
 -- break it, and whether one of both is broken.
 pub record AreAlike (found : Slacks) (one other : Slack) : Type 0 where
-  pub before : is_free (slack_told found.before) ≡ is_free one
-  pub after : is_free (slack_told found.after) ≡ is_free other
-  pub broken : (is_broken (slack_told found.before) || is_broken (slack_told found.after))
+  pub before : is_free (slack_finding found.before) ≡ is_free one
+  pub after : is_free (slack_finding found.after) ≡ is_free other
+  pub broken : (is_broken (slack_finding found.before) || is_broken (slack_finding found.after))
       ≡ (is_broken one || is_broken other)
 
 -- Something can break each side, and one of both is broken.
@@ -230,17 +230,17 @@ pub record BreakOne (one other : Slack) : Type 0 where
   pub broken : (is_broken one || is_broken other) ≡ true
 
 abbrev pub IsBrokenByTwo : Slacks → Type 0
-IsBrokenByTwo found = BreakOne (slack_told found.before) (slack_told found.after)
+IsBrokenByTwo found = BreakOne (slack_finding found.before) (slack_finding found.after)
 
 -- Where data may change in every slot: nothing if there is no window, or else no number of the
 -- waves on either side.
 abbrev pub AreOfWays : Bool → Slacks → Type 0
 AreOfWays false found = (found.before ≡ None) × (found.after ≡ None)
-AreOfWays true found = (is_starred (slack_told found.before) ≡ true)
-    × (is_starred (slack_told found.after) ≡ true)
+AreOfWays true found = (is_starred (slack_finding found.before) ≡ true)
+    × (is_starred (slack_finding found.after) ≡ true)
 
 -- The slacks of two sides, exactly but for an exception.
-pub record TellSides (p : ℕ) (except : Bool) (one other : Told) (found : Slacks) : Type 0 where
+pub record TellSides (p : ℕ) (except : Bool) (one other : Finding) (found : Slacks) : Type 0 where
   pub before : except ≡ false → Tells p found.before one
   pub after : except ≡ false → Tells p found.after other
   pub alike : AreAlike found one.slack other.slack
@@ -250,9 +250,9 @@ pub record TellWindow (p : ℕ) (ev : Events) (launches : Launches) (two : Windo
     (pin : ℕ) (direction : Direction)
     (w : Window) (found : Slacks) : Type 0 where
   pub before : two_in p ev two w ≡ false →
-      Tells p found.before (told_of pin direction (before_window p ev launches w))
+      Tells p found.before (finding_of pin direction (before_window p ev launches w))
   pub after : two_in p ev two w ≡ false →
-      Tells p found.after (told_of pin direction (after_window p ev launches w))
+      Tells p found.after (finding_of pin direction (after_window p ev launches w))
   pub alike : AreAlike found (before_window p ev launches w).slack
       (after_window p ev launches w).slack
 
@@ -263,10 +263,10 @@ pub record TellWindows (p : ℕ) (ev : Events) (launches : Launches) (two : Wind
     (windows : List Window) (found : Slacks) : Type 0 where
   pub level : found.level ≡ None
   pub before : list_any (two_in p ev two) windows ≡ false →
-      Tells p found.before (told_of pin direction
+      Tells p found.before (finding_of pin direction
       (least (map (before_window p ev launches) windows)))
   pub after : list_any (two_in p ev two) windows ≡ false →
-      Tells p found.after (told_of pin direction (least (map (after_window p ev launches) windows)))
+      Tells p found.after (finding_of pin direction (least (map (after_window p ev launches) windows)))
   pub alike : AreAlike found (least (map (before_window p ev launches) windows)).slack
       (least (map (after_window p ev launches) windows)).slack
 
@@ -292,24 +292,24 @@ pub record TellWatch (p : ℕ) (launches : Launches) (except : Bool) (pin : ℕ)
     (watch : Watch) (found : Slacks) : Type 0 where
   pub level : found.level ≡ None
   pub before : except ≡ false → Tells p found.before
-      (told_of pin direction (told_before p launches watch))
+      (finding_of pin direction (finding_before p launches watch))
   pub after : except ≡ false → Tells p found.after
-      (told_of pin direction (told_after p launches watch))
-  pub alike : AreAlike found (told_before p launches watch).slack
-      (told_after p launches watch).slack
+      (finding_of pin direction (finding_after p launches watch))
+  pub alike : AreAlike found (finding_before p launches watch).slack
+      (finding_after p launches watch).slack
 
 -- The same of a change that is never to come, and of those in windows: exactly unless two
 -- launches may make the only region that meets one.
 pub record TellParts (p : ℕ) (launches : Launches) (two : Window → Region → Bool) (pin : ℕ)
     (direction : Direction) (watch : Watch)
     (found : Slacks) : Type 0 where
-  pub level : Tells p found.level (told_of pin direction (told_never p watch))
+  pub level : Tells p found.level (finding_of pin direction (finding_never p watch))
   pub before : list_any (two_in p watch.changes two) watch.windows ≡ false →
-      Tells p found.before (told_of pin direction (told_before p launches (in_windows watch)))
+      Tells p found.before (finding_of pin direction (finding_before p launches (in_windows watch)))
   pub after : list_any (two_in p watch.changes two) watch.windows ≡ false →
-      Tells p found.after (told_of pin direction (told_after p launches (in_windows watch)))
-  pub alike : AreAlike found (told_before p launches (in_windows watch)).slack
-      (told_after p launches (in_windows watch)).slack
+      Tells p found.after (finding_of pin direction (finding_after p launches (in_windows watch)))
+  pub alike : AreAlike found (finding_before p launches (in_windows watch)).slack
+      (finding_after p launches (in_windows watch)).slack
 
 -- changes that are not to come at these ticks, nor in the tick beside them
 abbrev pub watch_at : ℕ → Events → Events → Watch
@@ -328,14 +328,14 @@ lacking d folds t = not (moves d (has (folds t)))
 pub record TellBeside (c : Circuit) (ws : Waves) (j : Instance) (marked i : ℕ)
     (found : Slacks) : Type 0 where
   pub level : is_beside j marked i ≡ true →
-      Tells (period c.header) found.level (told_of i Change (told_pin c ws j Gate marked i))
+      Tells (period c.header) found.level (finding_of i Change (finding_pin c ws j Gate marked i))
   pub before : is_beside j marked i ≡ true → beside_by_arrivals c ws j marked i ≡ false →
-      Tells (period c.header) found.before (told_of i Change (told_pin c ws j GateBefore marked i))
+      Tells (period c.header) found.before (finding_of i Change (finding_pin c ws j GateBefore marked i))
   pub after : is_beside j marked i ≡ true → beside_by_arrivals c ws j marked i ≡ false →
-      Tells (period c.header) found.after (told_of i Change (told_pin c ws j GateAfter marked i))
+      Tells (period c.header) found.after (finding_of i Change (finding_pin c ws j GateAfter marked i))
   pub alike : is_beside j marked i ≡ true →
-      AreAlike found (told_pin c ws j GateBefore marked i).slack
-      (told_pin c ws j GateAfter marked i).slack
+      AreAlike found (finding_pin c ws j GateBefore marked i).slack
+      (finding_pin c ws j GateAfter marked i).slack
   pub none : is_beside j marked i ≡ false →
       (found.level ≡ None) × (found.before ≡ None) × (found.after ≡ None)
 
@@ -346,13 +346,13 @@ steps_watch p folds wide d = watch_at p (events d folds) (lacking d wide)
 pub record TellDirections (p : ℕ) (folds wide : Folds) (directions : List Direction)
     (found : Slacks) : Type 0 where
   pub level : Tells p found.level (least
-      (map (λ d. told_of 0 d (told_never p (steps_watch p folds wide d))) directions))
+      (map (λ d. finding_of 0 d (finding_never p (steps_watch p folds wide d))) directions))
   pub before : Tells p found.before
-      (least (map (λ d. told_of 0 d
-      (told_before p no_launches (in_windows (steps_watch p folds wide d)))) directions))
+      (least (map (λ d. finding_of 0 d
+      (finding_before p no_launches (in_windows (steps_watch p folds wide d)))) directions))
   pub after : Tells p found.after
-      (least (map (λ d. told_of 0 d
-      (told_after p no_launches (in_windows (steps_watch p folds wide d)))) directions))
+      (least (map (λ d. finding_of 0 d
+      (finding_after p no_launches (in_windows (steps_watch p folds wide d)))) directions))
 
 -- a step from one bit to the other that the other value lacks
 abbrev pub is_step_outside : Value → Value → Bool
@@ -369,9 +369,9 @@ abbrev pub IsLevelIn : (ℕ → Bool) → Option Reason → Option ℕ → Type 
 IsLevelIn high found None = found ≡ None
 IsLevelIn high found (Some slot) = found ≡ Some (Level (high slot) slot)
 
-abbrev pub IsLevelTold : (ℕ → Bool) → Option Reason → Bool → Option ℕ → Type 0
-IsLevelTold high found true excess = found ≡ None
-IsLevelTold high found false excess = IsLevelIn high found excess
+abbrev pub IsLevelFinding : (ℕ → Bool) → Option Reason → Bool → Option ℕ → Type 0
+IsLevelFinding high found true excess = found ≡ None
+IsLevelFinding high found false excess = IsLevelIn high found excess
 
 -- those of two launches, or if there are none those of regions
 abbrev pub slacks_of_two : Option Slacks → Slacks → Slacks
@@ -391,7 +391,7 @@ step_held held w EarlyCorner =
 -- the edge of a clock that a window is held against at its begin, as the program counts its tick
 abbrev pub edge_held : Circuit → Waves → Held → Ticks → Option (ℕ × ℤ)
 edge_held c ws held w =
-    option_map (told_back (3 * period c.header))
+    option_map (finding_back (3 * period c.header))
     (edge_at_pin c ws EarlyCorner held.clock held.opens (ahead_of (period c.header) w.first))
 
 -- ---- what is told without windows
@@ -400,7 +400,7 @@ abbrev pub are_none : Slots → Bool
 are_none slots = not slots.are_all && (length slots.regions == 0)
 
 abbrev pub same_both : Option Found → Slacks
-same_both told = record { level = None; before = told; after = told }
+same_both finding = record { level = None; before = finding; after = finding }
 
 -- Where nothing changes, or nothing is to be quiet, no limit can be broken; where all slots are to
 -- be quiet, or all may change, there is no number.
@@ -409,9 +409,9 @@ without_windows held d changes still =
     if are_none changes || are_none still then Some (same_both None)
     else if still.are_all
     then Some (record {
-      level = Some (told_none (if is_some held then ByMark else ByAssertion) (place_in held) d);
+      level = Some (finding_none (if is_some held then ByMark else ByAssertion) (place_in held) d);
       before = None;
       after = None;
     })
-    else if changes.are_all then Some (same_both (Some (told_none ByData (place_in held) d)))
+    else if changes.are_all then Some (same_both (Some (finding_none ByData (place_in held) d)))
     else None

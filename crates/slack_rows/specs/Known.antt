@@ -10,11 +10,11 @@ use Rattle.slack_rows.specs.declared.parameter.Word.{Word as Limit}
 use Rattle.slack_rows.specs.declared.parameter.Word.TheVariants.{Setup, Hold, High, Low, Gate, Before as GateBefore, After as GateAfter, Assert, From as StableFrom, To as StableTo}
 use Rattle.slack_rows.specs.declared.rows.Least.{Least}
 use Rattle.slack_rows.specs.declared.slack.Slacks.{Slacks}
-use Rattle.slack_rows.specs.declared.slack.Told.{Told as Found}
-use Rattle.slack_rows.specs.Slack.{Free, Told, is_broken, is_free, is_less}
-use Rattle.slack_rows.specs.Limit.{Case, by_arrivals, least_told, told_in, worst}
+use Rattle.slack_rows.specs.declared.slack.Finding.{Finding as Found}
+use Rattle.slack_rows.specs.Slack.{Free, Finding, is_broken, is_free, is_less}
+use Rattle.slack_rows.specs.Limit.{Case, by_arrivals, least_finding, finding_in, worst}
 use Rattle.slack_rows.specs.Rows.{all_limits, first_with, limits_of, partner, subjects}
-use Rattle.slack_rows.specs.Views.{IsTold, Tells, slack_by, slack_for, slack_told}
+use Rattle.slack_rows.specs.Views.{IsFinding, Tells, slack_by, slack_for, slack_finding}
 
 -- ---- sets of cases
 
@@ -72,38 +72,38 @@ may_be_two StableTo = false
 
 -- of a limit and the one on the other side of the same edges one is broken exactly if one is
 -- told to be
-abbrev pub BreakAlike : (Limit → Told) → Slacks → Limit → Option Limit → Type 0
-BreakAlike told slacks word None = Unit {0}
-BreakAlike told slacks word (Some before) =
-    (is_broken (slack_told (slack_for slacks before))
-    || is_broken (slack_told (slack_for slacks word)))
-    ≡ (is_broken (told before).slack || is_broken (told word).slack)
+abbrev pub BreakAlike : (Limit → Finding) → Slacks → Limit → Option Limit → Type 0
+BreakAlike finding slacks word None = Unit {0}
+BreakAlike finding slacks word (Some before) =
+    (is_broken (slack_finding (slack_for slacks before))
+    || is_broken (slack_finding (slack_for slacks word)))
+    ≡ (is_broken (finding before).slack || is_broken (finding word).slack)
 
 -- Whatever arrivals say: whether something can break a limit, and whether it is broken, of two
 -- sides together.
-pub record IsAlike (told : Limit → Told) (slacks : Slacks) (word : Limit) : Type 0 where
-  pub free : is_free (slack_told (slack_for slacks word)) ≡ is_free (told word).slack
+pub record IsAlike (finding : Limit → Finding) (slacks : Slacks) (word : Limit) : Type 0 where
+  pub free : is_free (slack_finding (slack_for slacks word)) ≡ is_free (finding word).slack
   pub alone : may_be_two word ≡ false →
-      is_broken (slack_told (slack_for slacks word)) ≡ is_broken (told word).slack
-  pub both : BreakAlike told slacks word (partner word)
+      is_broken (slack_finding (slack_for slacks word)) ≡ is_broken (finding word).slack
+  pub both : BreakAlike finding slacks word (partner word)
 
 -- the slacks of these limits, all of them exact but for an exception
-pub record TellLimits (p : ℕ) (except : Bool) (told : Limit → Told) (limits : List Limit)
+pub record TellLimits (p : ℕ) (except : Bool) (finding : Limit → Finding) (limits : List Limit)
     (slacks : Slacks) : Type 0 where
-  pub exact : except ≡ false → All (λ word. Tells p (slack_for slacks word) (told word)) limits
-  pub alike : All (IsAlike told slacks) limits
+  pub exact : except ≡ false → All (λ word. Tells p (slack_for slacks word) (finding word)) limits
+  pub alike : All (IsAlike finding slacks) limits
 
 -- these are the slacks of the subject, if there is one
 abbrev pub SlacksKnown : Circuit → Waves → Option Subject → Slacks → Type 0
 SlacksKnown c ws None slacks = Unit {0}
 SlacksKnown c ws (Some subject) slacks =
-    TellLimits (period c.header) (by_arrivals c ws subject) (told_in c ws subject)
+    TellLimits (period c.header) (by_arrivals c ws subject) (finding_in c ws subject)
     (limits_of c subject) slacks
 
 -- the slack of a limit, and whether two are of one case
-abbrev pub told_least : Option Least → Option Found
-told_least None = None
-told_least (Some least) = Some least.told
+abbrev pub finding_least : Option Least → Option Found
+finding_least None = None
+finding_least (Some least) = Some least.finding
 
 abbrev pub in_one_case : Option Least → Option Least → Bool
 in_one_case None after = false
@@ -115,7 +115,7 @@ in_one_case (Some before) (Some after) = before.case == after.case
 -- the least slack of a limit over these cases, and all cases that have it
 pub record IsLeast (c : Circuit) (cases : List Case) (sets : List (ℕ × ℕ)) (q : Parameter)
     (found : Least) : Type 0 where
-  pub told : IsTold (period c.header) found.told (least_told c cases q.subject q.word)
+  pub finding : IsFinding (period c.header) found.finding (least_finding c cases q.subject q.word)
   pub in_case : first_with c cases q.subject q.word ≡ found.case
   pub have_it : numbers_of (map (λ (case : Case). case.number) cases) (places_of sets found.cases)
       ≡ (worst c cases q.subject q.word).cases
@@ -123,7 +123,7 @@ pub record IsLeast (c : Circuit) (cases : List Case) (sets : List (ℕ × ℕ)) 
   pub within : AllByRecursion (λ place. place < length cases) (places_of sets found.cases)
 
 abbrev pub IsKnown : Circuit → List Case → List (ℕ × ℕ) → Parameter → Option Least → Type 0
-IsKnown c cases sets q None = (least_told c cases q.subject q.word).slack ≡ Free
+IsKnown c cases sets q None = (least_finding c cases q.subject q.word).slack ≡ Free
 IsKnown c cases sets q (Some found) = IsLeast c cases sets q found
 
 -- it has a set of cases
@@ -133,7 +133,7 @@ IsNumbered sets (Some found) = found.cases ≤ length sets
 
 abbrev pub breaks : Option Least → Bool
 breaks None = false
-breaks (Some least) = is_broken (slack_by least.told.slack)
+breaks (Some least) = is_broken (slack_by least.finding.slack)
 
 -- the least so many places before one, if there is one
 abbrev pub least_at : List (Option Least) → ℕ → ℕ → Option Least
@@ -147,8 +147,8 @@ abbrev pub BreaksBoth : Circuit → List Case → List (Option Least) → ℕ �
 BreaksBoth c cases least place q None = Unit {0}
 BreaksBoth c cases least place q (Some before) =
     (breaks (least_at least place 1) || breaks (least_at least place 0))
-    ≡ (is_broken (least_told c cases q.subject before).slack
-    || is_broken (least_told c cases q.subject q.word).slack)
+    ≡ (is_broken (least_finding c cases q.subject before).slack
+    || is_broken (least_finding c cases q.subject q.word).slack)
 
 -- Of each limit of the circuit: all if arrivals do not decide, and always whether something can
 -- break it and whether it is broken, of two sides together.
@@ -165,26 +165,26 @@ pub record AreKnown (c : Circuit) (cases : List Case) (limits : List Parameter)
       IsKnown c cases sets q found
   pub free : (i : ℕ) (q : Parameter) (found : Option Least) → slice_get limits i ≡ Some q →
       slice_get least i ≡ Some found →
-      is_none found ≡ is_free (least_told c cases q.subject q.word).slack
+      is_none found ≡ is_free (least_finding c cases q.subject q.word).slack
   pub alone : (i : ℕ) (q : Parameter) (found : Option Least) → slice_get limits i ≡ Some q →
       slice_get least i ≡ Some found → may_be_two q.word ≡ false →
-      breaks found ≡ is_broken (least_told c cases q.subject q.word).slack
+      breaks found ≡ is_broken (least_finding c cases q.subject q.word).slack
   pub both : (i : ℕ) (q : Parameter) → slice_get limits i ≡ Some q →
       BreaksBoth c cases least i q (partner q.word)
 
 -- ---- one case more
 
 -- the first case of which it is the least
-pub record IsFirst (sets : List (ℕ × ℕ)) (told : Found) (case : ℕ) (new : List (ℕ × ℕ))
+pub record IsFirst (sets : List (ℕ × ℕ)) (finding : Found) (case : ℕ) (new : List (ℕ × ℕ))
     (found : Least) : Type 0 where
-  pub same_told : found.told ≡ told
+  pub same_finding : found.finding ≡ finding
   pub same_case : found.case ≡ case
   pub set : IsSetWith sets (0, case) found.cases new
 
 -- one case more that has the same
 pub record IsJoined (sets : List (ℕ × ℕ)) (least : Least) (case : ℕ) (new : List (ℕ × ℕ))
     (found : Least) : Type 0 where
-  pub same_told : found.told ≡ least.told
+  pub same_finding : found.finding ≡ least.finding
   pub same_case : found.case ≡ least.case
   pub set : IsSetWith sets (least.cases, case) found.cases new
 
@@ -200,19 +200,19 @@ IfFound is (Some found) = is found
 -- by whether the new one is less, and whether it is more
 abbrev pub IsLoweredBy : Bool → Bool → List (ℕ × ℕ) → Least → Found → ℕ → List (ℕ × ℕ) →
     Option Least → Type 0
-IsLoweredBy true more sets least told case new found = IfFound (IsFirst sets told case new) found
-IsLoweredBy false true sets least told case new found = IsKept sets (Some least) new found
-IsLoweredBy false false sets least told case new found =
+IsLoweredBy true more sets least finding case new found = IfFound (IsFirst sets finding case new) found
+IsLoweredBy false true sets least finding case new found = IsKept sets (Some least) new found
+IsLoweredBy false false sets least finding case new found =
     IfFound (IsJoined sets least case new) found
 
 -- the least with that of one case more
 abbrev pub IsLowered : List (ℕ × ℕ) → Option Least → Option Found → ℕ → List (ℕ × ℕ) →
     Option Least → Type 0
 IsLowered sets least None case new found = IsKept sets least new found
-IsLowered sets None (Some told) case new found = IfFound (IsFirst sets told case new) found
-IsLowered sets (Some least) (Some told) case new found =
-    IsLoweredBy (is_less (slack_by told.slack) (slack_by least.told.slack))
-    (is_less (slack_by least.told.slack) (slack_by told.slack)) sets least told case new found
+IsLowered sets None (Some finding) case new found = IfFound (IsFirst sets finding case new) found
+IsLowered sets (Some least) (Some finding) case new found =
+    IsLoweredBy (is_less (slack_by finding.slack) (slack_by least.finding.slack))
+    (is_less (slack_by least.finding.slack) (slack_by finding.slack)) sets least finding case new found
 
 -- ---- what nothing can break
 

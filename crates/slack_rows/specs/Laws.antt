@@ -11,12 +11,12 @@ use Rattle.point_check.specs.Faults.{instance_fault, net_fault}
 use Rattle.pulse_check.specs.Faults.{limited_fault as width_fault}
 use Rattle.critical_paths.specs.Event.{Events}
 use Rattle.critical_paths.specs.Region.{IsCyclic}
-use Rattle.slack_rows.specs.Slack.{Launches, Watch, Told, is_broken, told_before, told_after}
+use Rattle.slack_rows.specs.Slack.{Launches, Watch, Finding, is_broken, finding_before, finding_after}
 use Rattle.slack_rows.specs.declared.parameter.Word.{Word as Limit}
 use Rattle.slack_rows.specs.declared.parameter.Word.TheVariants.{Setup, Hold, High, Low, Gate, Before as GateBefore, After as GateAfter, Assert, From as StableFrom, To as StableTo}
 use Rattle.slack_rows.specs.declared.parameter.Subject.{Subject}
 use Rattle.slack_rows.specs.declared.parameter.Subject.TheVariants.{Instance as OfInstance, Net as OfNet}
-use Rattle.slack_rows.specs.Limit.{told_in}
+use Rattle.slack_rows.specs.Limit.{finding_in}
 use Rattle.slack_rows.specs.Window.{Window}
 
 -- the window lies so that what is before it and after it has ticks, and some tick is in it
@@ -46,22 +46,22 @@ abbrev pub IsTouchedWatch : Watch → Type 0
 IsTouchedWatch watch = ((watch.never ≡ true) × SomeTick watch.changes)
     ⊎ SomeOf (IsTouched watch.changes) watch.windows
 
-abbrev pub IsBroken : Told → Type 0
-IsBroken told = is_broken told.slack ≡ true
+abbrev pub IsBroken : Finding → Type 0
+IsBroken finding = is_broken finding.slack ≡ true
 
 -- One of the two slacks is broken exactly if it does, whatever is known of launches.
 abbrev pub BrokenWhereTouched : Type 0
 BrokenWhereTouched =
     (p : ℕ) (launches : Launches) (watch : Watch) → 2 ≤ p → IsCyclic p watch.changes →
     AllByRecursion (IsPlaced p) watch.windows →
-    (IsBroken (told_before p launches watch) ⊎ IsBroken (told_after p launches watch))
+    (IsBroken (finding_before p launches watch) ⊎ IsBroken (finding_after p launches watch))
     ↔ IsTouchedWatch watch
 
 -- ---- faults
 
 -- a limit of a subject is broken in these waves
 abbrev pub Breaks : Circuit → Waves → Subject → Limit → Type 0
-Breaks c ws subject limit = IsBroken (told_in c ws subject limit)
+Breaks c ws subject limit = IsBroken (finding_in c ws subject limit)
 
 -- Delays, limits and pins are those of a circuit, and each net has a wave of the period.
 pub record AreWaves (c : Circuit) (ws : Waves) : Type 0 where

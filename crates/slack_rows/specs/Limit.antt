@@ -27,7 +27,7 @@ use Rattle.critical_paths.specs.declared.direction.Direction.{Direction}
 use Rattle.critical_paths.specs.declared.direction.Direction.TheVariants.{Rise, Fall, Change}
 use Rattle.critical_paths.specs.Event.{Events, events}
 use Rattle.critical_paths.specs.Region.{Region, all_events, first_from, some_event}
-use Rattle.slack_rows.specs.Slack.{Slack, Free, Ticks, NoNumber, Told, Watch, AtLevel, is_less, is_met, least, no_launches, told_after, told_alone, told_at, told_before, told_of, two_in}
+use Rattle.slack_rows.specs.Slack.{Slack, Free, Ticks, NoNumber, Finding, Watch, AtLevel, is_less, is_met, least, no_launches, finding_after, finding_alone, finding_at, finding_before, finding_of, two_in}
 use Rattle.slack_rows.specs.declared.parameter.Word.{Word as Limit}
 use Rattle.slack_rows.specs.declared.parameter.Word.TheVariants.{Setup, Hold, High, Low, Gate, Before as GateBefore, After as GateAfter, Assert, From as StableFrom, To as StableTo}
 use Rattle.slack_rows.specs.declared.parameter.Subject.{Subject}
@@ -35,7 +35,7 @@ use Rattle.slack_rows.specs.declared.parameter.Subject.TheVariants.{Instance as 
 use Rattle.slack_rows.specs.declared.window.Extent.{Extent}
 use Rattle.slack_rows.specs.Window.{Window, ahead, extent_of}
 use Rattle.slack_rows.specs.Watch.{directions_of, gate_watch, net_watch, permitted, rise_watch, span_watch}
-use Rattle.slack_rows.specs.Pulse.{left_at, narrowest, told_wave}
+use Rattle.slack_rows.specs.Pulse.{left_at, narrowest, finding_wave}
 use Rattle.slack_rows.specs.Launched.{checker_launches, gate_launches, opening, two_at_ends}
 
 -- ---- without a window
@@ -47,14 +47,14 @@ still_before p ev t = first_from (λ n. ev (ahead p t - n)) p 0
 abbrev pub still_after : ℕ → Events → ℕ → Option ℕ
 still_after p ev t = first_from (λ n. ev (t + 1 + n)) p 0
 
-abbrev pub told_still : Option ℕ → Told
-told_still None = told_alone Free
-told_still (Some n) = told_alone (Ticks (pos n))
+abbrev pub finding_still : Option ℕ → Finding
+finding_still None = finding_alone Free
+finding_still (Some n) = finding_alone (Ticks (pos n))
 
 -- the least about the slots in which the clock may rise
-abbrev pub least_still : (ℕ → Option ℕ) → ℕ → Events → Told
+abbrev pub least_still : (ℕ → Option ℕ) → ℕ → Events → Finding
 least_still still p clock =
-    least (map (λ t. told_still (still t)) (filter clock (range_with_len 0 p)))
+    least (map (λ t. finding_still (still t)) (filter clock (range_with_len 0 p)))
 
 -- ---- checkers
 
@@ -78,53 +78,53 @@ spans_of c ws j =
     span_watch (period c.header) (edge_limits j.limits) (pin_folds c ws j 0) (pin_folds c ws j 1)
 
 -- A checker that asks for nothing about a rise has no window there.
-abbrev pub edge_pair : (ℕ → Events → ℕ → Option ℕ) → Circuit → Waves → Instance → Told
+abbrev pub edge_pair : (ℕ → Events → ℕ → Option ℕ) → Circuit → Waves → Instance → Finding
 edge_pair still c ws j =
     least_still (still (period c.header) (events Change (pin_folds c ws j 1)))
     (period c.header) (events Rise (pin_folds c ws j 0))
 
-abbrev pub told_rise : Circuit → Waves → Instance → Limit → Told
-told_rise c ws j Setup =
+abbrev pub finding_rise : Circuit → Waves → Instance → Limit → Finding
+finding_rise c ws j Setup =
     if has_no_window (edge_limits j.limits) then edge_pair still_before c ws j
-    else told_before (period c.header)
+    else finding_before (period c.header)
     (checker_launches c ws j Rise (rises_of c ws j).windows) (rises_of c ws j)
-told_rise c ws j Hold =
+finding_rise c ws j Hold =
     if has_no_window (edge_limits j.limits) then edge_pair still_after c ws j
-    else told_after (period c.header)
+    else finding_after (period c.header)
     (checker_launches c ws j Rise (rises_of c ws j).windows) (rises_of c ws j)
-told_rise c ws j limit = told_alone Free
+finding_rise c ws j limit = finding_alone Free
 
-abbrev pub told_span : Circuit → Waves → Instance → Limit → Told
-told_span c ws j Setup =
-    told_before (period c.header)
+abbrev pub finding_span : Circuit → Waves → Instance → Limit → Finding
+finding_span c ws j Setup =
+    finding_before (period c.header)
     (checker_launches c ws j Fall (spans_of c ws j).windows) (spans_of c ws j)
-told_span c ws j Hold =
-    told_after (period c.header)
+finding_span c ws j Hold =
+    finding_after (period c.header)
     (checker_launches c ws j Fall (spans_of c ws j).windows) (spans_of c ws j)
-told_span c ws j limit = told_alone Free
+finding_span c ws j limit = finding_alone Free
 
 -- the step with which a pulse at a level begins
 abbrev pub begin_of : Bool → Direction
 begin_of true = Rise
 begin_of false = Fall
 
-abbrev pub told_level : Circuit → Waves → Instance → Bool → ℕ → Option Pin → Told
-told_level c ws j level limit None = told_alone Free
-told_level c ws j level limit (Some pin) =
-    told_of 0 (begin_of level) (told_wave limit (left_at c ws level pin)
+abbrev pub finding_level : Circuit → Waves → Instance → Bool → ℕ → Option Pin → Finding
+finding_level c ws j level limit None = finding_alone Free
+finding_level c ws j level limit (Some pin) =
+    finding_of 0 (begin_of level) (finding_wave limit (left_at c ws level pin)
     (read (wave_of_pin (pin_waves c ws j) 0).cells)
     (narrowest (period c.header) level (read (wave_of_pin (pin_waves c ws j) 0).cells)))
 
-abbrev pub told_width : Circuit → Waves → Instance → Limit → Told
-told_width c ws j High = told_level c ws j true (high_of j.limits) (slice_get j.pins 0)
-told_width c ws j Low = told_level c ws j false (low_of j.limits) (slice_get j.pins 0)
-told_width c ws j limit = told_alone Free
+abbrev pub finding_width : Circuit → Waves → Instance → Limit → Finding
+finding_width c ws j High = finding_level c ws j true (high_of j.limits) (slice_get j.pins 0)
+finding_width c ws j Low = finding_level c ws j false (low_of j.limits) (slice_get j.pins 0)
+finding_width c ws j limit = finding_alone Free
 
-abbrev pub told_check : Circuit → Waves → Instance → Limit → Option Check → Told
-told_check c ws j limit None = told_alone Free
-told_check c ws j limit (Some AboutRise) = told_of 1 Change (told_rise c ws j limit)
-told_check c ws j limit (Some RiseToFall) = told_of 1 Change (told_span c ws j limit)
-told_check c ws j limit (Some Widths) = told_width c ws j limit
+abbrev pub finding_check : Circuit → Waves → Instance → Limit → Option Check → Finding
+finding_check c ws j limit None = finding_alone Free
+finding_check c ws j limit (Some AboutRise) = finding_of 1 Change (finding_rise c ws j limit)
+finding_check c ws j limit (Some RiseToFall) = finding_of 1 Change (finding_span c ws j limit)
+finding_check c ws j limit (Some Widths) = finding_width c ws j limit
 
 -- ---- marks
 
@@ -148,28 +148,28 @@ watch_beside c ws j marked i =
     gate_watch (period c.header) j.kind (pin_folds c ws j marked) (pin_folds c ws j i)
 
 -- a change where there is never to be one
-abbrev pub told_never : ℕ → Watch → Told
-told_never p watch =
-    if watch.never && some_event p watch.changes then told_alone NoNumber else told_alone Free
+abbrev pub finding_never : ℕ → Watch → Finding
+finding_never p watch =
+    if watch.never && some_event p watch.changes then finding_alone NoNumber else finding_alone Free
 
 -- the windows alone
 abbrev pub in_windows : Watch → Watch
 in_windows watch = record { changes = watch.changes; windows = watch.windows; never = false }
 
-abbrev pub told_pin : Circuit → Waves → Instance → Limit → ℕ → ℕ → Told
-told_pin c ws j Gate marked i = told_never (period c.header) (watch_beside c ws j marked i)
-told_pin c ws j GateBefore marked i =
-    told_before (period c.header) (gate_launches c ws j marked i)
+abbrev pub finding_pin : Circuit → Waves → Instance → Limit → ℕ → ℕ → Finding
+finding_pin c ws j Gate marked i = finding_never (period c.header) (watch_beside c ws j marked i)
+finding_pin c ws j GateBefore marked i =
+    finding_before (period c.header) (gate_launches c ws j marked i)
     (in_windows (watch_beside c ws j marked i))
-told_pin c ws j GateAfter marked i =
-    told_after (period c.header) (gate_launches c ws j marked i)
+finding_pin c ws j GateAfter marked i =
+    finding_after (period c.header) (gate_launches c ws j marked i)
     (in_windows (watch_beside c ws j marked i))
-told_pin c ws j limit marked i = told_alone Free
+finding_pin c ws j limit marked i = finding_alone Free
 
-abbrev pub told_mark : Circuit → Waves → Instance → Limit → Option ℕ → Told
-told_mark c ws j limit None = told_alone Free
-told_mark c ws j limit (Some marked) =
-    least (map (λ i. told_of i Change (told_pin c ws j limit marked i)) (beside j marked))
+abbrev pub finding_mark : Circuit → Waves → Instance → Limit → Option ℕ → Finding
+finding_mark c ws j limit None = finding_alone Free
+finding_mark c ws j limit (Some marked) =
+    least (map (λ i. finding_of i Change (finding_pin c ws j limit marked i)) (beside j marked))
 
 -- ---- assertions
 
@@ -181,46 +181,46 @@ steps_outside p found wide =
     (range_with_len 0 p)
 
 -- a level that it has not, if it has all steps
-abbrev pub told_outside : Bool → Option ℕ → Told
-told_outside true excess = told_alone Free
-told_outside false None = told_alone Free
-told_outside false (Some t) = told_at NoNumber (AtLevel t)
+abbrev pub finding_outside : Bool → Option ℕ → Finding
+finding_outside true excess = finding_alone Free
+finding_outside false None = finding_alone Free
+finding_outside false (Some t) = finding_at NoNumber (AtLevel t)
 
 abbrev pub watch_net : Circuit → Waves → ℕ → Net → Direction → Watch
 watch_net c ws i net d = net_watch c.header net.spec (fold values (ws i)) d
 
-abbrev pub told_net : Circuit → Waves → ℕ → Net → Limit → Told
-told_net c ws i net Assert =
-    least (map (λ d. told_of 0 d (told_never (period c.header) (watch_net c ws i net d)))
+abbrev pub finding_net : Circuit → Waves → ℕ → Net → Limit → Finding
+finding_net c ws i net Assert =
+    least (map (λ d. finding_of 0 d (finding_never (period c.header) (watch_net c ws i net d)))
     (directions_of net.spec)
-    ++ told_outside (steps_outside (period c.header) (fold values (ws i))
+    ++ finding_outside (steps_outside (period c.header) (fold values (ws i))
     (permitted c.header net.spec))
     (first_excess (period c.header) (fold values (ws i)) (permitted c.header net.spec)) ∷ [])
-told_net c ws i net StableFrom =
-    least (map (λ d. told_of 0 d (told_before (period c.header) no_launches
+finding_net c ws i net StableFrom =
+    least (map (λ d. finding_of 0 d (finding_before (period c.header) no_launches
     (in_windows (watch_net c ws i net d)))) (directions_of net.spec))
-told_net c ws i net StableTo =
-    least (map (λ d. told_of 0 d (told_after (period c.header) no_launches
+finding_net c ws i net StableTo =
+    least (map (λ d. finding_of 0 d (finding_after (period c.header) no_launches
     (in_windows (watch_net c ws i net d)))) (directions_of net.spec))
-told_net c ws i net limit = told_alone Free
+finding_net c ws i net limit = finding_alone Free
 
 -- ---- in a case
 
-abbrev pub told_instance : Circuit → Waves → Limit → Option Instance → Told
-told_instance c ws limit None = told_alone Free
-told_instance c ws limit (Some j) =
-    if may_be_marked j.kind then told_mark c ws j limit (marked_pin j)
-    else told_check c ws j limit (check_of j.kind)
+abbrev pub finding_instance : Circuit → Waves → Limit → Option Instance → Finding
+finding_instance c ws limit None = finding_alone Free
+finding_instance c ws limit (Some j) =
+    if may_be_marked j.kind then finding_mark c ws j limit (marked_pin j)
+    else finding_check c ws j limit (check_of j.kind)
 
-abbrev pub told_held : Circuit → Waves → ℕ → Limit → Option Net → Told
-told_held c ws i limit None = told_alone Free
-told_held c ws i limit (Some net) =
-    if is_held net then told_net c ws i net limit else told_alone Free
+abbrev pub finding_held : Circuit → Waves → ℕ → Limit → Option Net → Finding
+finding_held c ws i limit None = finding_alone Free
+finding_held c ws i limit (Some net) =
+    if is_held net then finding_net c ws i net limit else finding_alone Free
 
 -- the slack of a limit of a subject in these waves
-unfoldable pub told_in : Circuit → Waves → Subject → Limit → Told
-told_in c ws (OfInstance k) limit = told_instance c ws limit (slice_get c.instances k)
-told_in c ws (OfNet i) limit = told_held c ws i limit (slice_get c.nets i)
+unfoldable pub finding_in : Circuit → Waves → Subject → Limit → Finding
+finding_in c ws (OfInstance k) limit = finding_instance c ws limit (slice_get c.instances k)
+finding_in c ws (OfNet i) limit = finding_held c ws i limit (slice_get c.nets i)
 
 -- ---- by arrivals
 
@@ -275,22 +275,22 @@ same_slack a b = not (is_less a b) && not (is_less b a)
 
 -- The least over the cases, of the first that has it, with the numbers of all that have the same.
 pub record Worst : Type 0 where
-  pub told : Told
+  pub finding : Finding
   pub cases : List ℕ
 
-abbrev pub told_case : Circuit → Subject → Limit → Case → Told
-told_case c subject limit case = told_in c case.waves subject limit
+abbrev pub finding_case : Circuit → Subject → Limit → Case → Finding
+finding_case c subject limit case = finding_in c case.waves subject limit
 
-abbrev pub least_told : Circuit → List Case → Subject → Limit → Told
-least_told c cases subject limit = least (map (told_case c subject limit) cases)
+abbrev pub least_finding : Circuit → List Case → Subject → Limit → Finding
+least_finding c cases subject limit = least (map (finding_case c subject limit) cases)
 
 abbrev pub has_slack : Circuit → Subject → Limit → Slack → Case → Bool
-has_slack c subject limit slack case = same_slack (told_case c subject limit case).slack slack
+has_slack c subject limit slack case = same_slack (finding_case c subject limit case).slack slack
 
 abbrev pub worst : Circuit → List Case → Subject → Limit → Worst
 worst c cases subject limit =
     record {
-      told = least_told c cases subject limit;
+      finding = least_finding c cases subject limit;
       cases = map (λ (case : Case). case.number)
-          (filter (has_slack c subject limit (least_told c cases subject limit).slack) cases);
+          (filter (has_slack c subject limit (least_finding c cases subject limit).slack) cases);
     }

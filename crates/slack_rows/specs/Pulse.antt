@@ -15,7 +15,7 @@ use Rattle.scald_base.specs.Signal.{turned}
 use Rattle.fixpoint_engine.specs.Pins.{read}
 use Rattle.fixpoint_engine.specs.Waves.{Waves, marked_pin, pin_waves}
 use Rattle.pulse_check.specs.Pulse.{Slots, narrow_at}
-use Rattle.slack_rows.specs.Slack.{Free, Ticks, Told, InPulse, told_alone, told_at}
+use Rattle.slack_rows.specs.Slack.{Free, Ticks, Finding, InPulse, finding_alone, finding_at}
 
 -- a pulse, by its first slot and its width
 abbrev pub Pulse : Type 0
@@ -114,11 +114,11 @@ abbrev pub width_of : Pulse → ℕ → Option ℤ → ℤ
 width_of pulse limit None = pos pulse.1
 width_of pulse limit (Some left) = if (pulse.1 == 1) && nat_lt 1 limit then left else pos pulse.1
 
-abbrev pub told_pulse : ℕ → Option ℤ → Option Pulse → Told
-told_pulse limit left None = told_alone Free
-told_pulse limit left (Some pulse) =
-    told_at (Ticks (width_of pulse limit left -ℤ pos limit)) (InPulse pulse.0 pulse.1)
+abbrev pub finding_pulse : ℕ → Option ℤ → Option Pulse → Finding
+finding_pulse limit left None = finding_alone Free
+finding_pulse limit left (Some pulse) =
+    finding_at (Ticks (width_of pulse limit left -ℤ pos limit)) (InPulse pulse.0 pulse.1)
 
 -- that of the narrowest pulse of a wave
-abbrev pub told_wave : ℕ → Option ℤ → Slots → Option Pulse → Told
-told_wave limit left wave pulse = told_pulse limit (left_once (changes_again wave pulse) left) pulse
+abbrev pub finding_wave : ℕ → Option ℤ → Slots → Option Pulse → Finding
+finding_wave limit left wave pulse = finding_pulse limit (left_once (changes_again wave pulse) left) pulse

@@ -14,14 +14,14 @@ use Rattle.fixpoint_engine.specs.Waves.{marked_pin}
 use Rattle.point_check.specs.Assertion.{is_held}
 use Rattle.critical_paths.specs.Event.{same_direction}
 use Rattle.critical_paths.specs.Region.{Region}
-use Rattle.slack_rows.specs.Slack.{Slack, NoNumber, Place, Told, At, is_above, is_broken, is_free}
+use Rattle.slack_rows.specs.Slack.{Slack, NoNumber, Place, Finding, At, is_above, is_broken, is_free}
 use Rattle.slack_rows.specs.declared.parameter.Word.{Word as Limit}
 use Rattle.slack_rows.specs.declared.parameter.Word.TheVariants.{Setup, Hold, High, Low, Gate, Before as GateBefore, After as GateAfter, Assert, From as StableFrom, To as StableTo}
 use Rattle.slack_rows.specs.declared.parameter.Parameter.{Parameter}
 use Rattle.slack_rows.specs.declared.parameter.Subject.{Subject}
 use Rattle.slack_rows.specs.declared.parameter.Subject.TheVariants.{Instance as OfInstance, Net as OfNet}
 use Rattle.slack_rows.specs.Window.{Window}
-use Rattle.slack_rows.specs.Limit.{Case, Worst, beside, has_slack, least_told, worst}
+use Rattle.slack_rows.specs.Limit.{Case, Worst, beside, has_slack, least_finding, worst}
 
 -- ---- which limits there are
 
@@ -104,7 +104,7 @@ row c cases subject limit =
     record { subject = subject; limit = limit; worst = worst c cases subject limit }
 
 abbrev pub slack_of : Row → Slack
-slack_of r = r.worst.told.slack
+slack_of r = r.worst.finding.slack
 
 -- ---- reported once
 
@@ -129,7 +129,7 @@ first_where test (case ∷ cases) = if test case then 0 else first_where test ca
 -- the first case that has the least slack of a limit, by how many come before it
 abbrev pub first_with : Circuit → List Case → Subject → Limit → ℕ
 first_with c cases subject limit =
-    first_where (has_slack c subject limit (least_told c cases subject limit).slack) cases
+    first_where (has_slack c subject limit (least_finding c cases subject limit).slack) cases
 
 -- They are one region, or the same whole periods apart, of a period of p ticks.
 abbrev pub same_region : ℕ → Region → Region → Bool
@@ -151,11 +151,11 @@ abbrev pub have_no_number : Slack → Slack → Bool
 have_no_number NoNumber NoNumber = true
 have_no_number a b = false
 
-abbrev pub is_same_pin : Told → Told → Bool
+abbrev pub is_same_pin : Finding → Finding → Bool
 is_same_pin a b = (a.pin == b.pin) && same_direction a.direction b.direction
 
 -- Neither has a number, or both are broken by one region of changes in one case.
-abbrev pub reported_once : ℕ → Bool → Told → Told → Bool
+abbrev pub reported_once : ℕ → Bool → Finding → Finding → Bool
 reported_once p in_one_case before after =
     have_no_number before.slack after.slack
     || (is_broken before.slack && (is_broken after.slack
@@ -167,7 +167,7 @@ is_reported_by c cases r None = false
 is_reported_by c cases r (Some before) =
     reported_once (period c.header)
     (first_with c cases r.subject before == first_with c cases r.subject r.limit)
-    (least_told c cases r.subject before) r.worst.told
+    (least_finding c cases r.subject before) r.worst.finding
 
 -- it is in the row before it already
 abbrev pub is_reported : Circuit → List Case → Row → Bool
@@ -226,7 +226,7 @@ level_beside StableTo = Some Assert
 
 abbrev pub is_level_free : Circuit → List Case → Subject → Option Limit → Bool
 is_level_free c cases subject None = true
-is_level_free c cases subject (Some level) = is_free (least_told c cases subject level).slack
+is_level_free c cases subject (Some level) = is_free (least_finding c cases subject level).slack
 
 -- Nothing can break it, nor the mark or the assertion itself, which is no limit of time.
 abbrev pub is_free_limit : Circuit → List Case → Row → Bool
@@ -244,5 +244,5 @@ free_count c cases =
 -- some limit is broken in some of these cases
 abbrev pub some_broken : Circuit → List Case → Bool
 some_broken c cases =
-    list_any (λ (q : Parameter). is_broken (least_told c cases q.subject q.word).slack)
+    list_any (λ (q : Parameter). is_broken (least_finding c cases q.subject q.word).slack)
     (all_limits c)

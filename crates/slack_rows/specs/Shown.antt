@@ -26,7 +26,7 @@ use Rattle.slack_rows.specs.declared.parameter.Subject.TheVariants.{Instance as 
 use Rattle.slack_rows.specs.declared.parameter.Word.{Word as Limit}
 use Rattle.slack_rows.specs.declared.slack.By.{By}
 use Rattle.slack_rows.specs.declared.slack.By.TheVariants.{Region as ByRegion, Way as ByWay, Quiet, Pulse, Swallowed, Repeated, Nothing}
-use Rattle.slack_rows.specs.declared.slack.Told.{Told as Found}
+use Rattle.slack_rows.specs.declared.slack.Finding.{Finding as Found}
 use Rattle.slack_rows.specs.declared.window.Window.{Window as Ticks}
 use Rattle.slack_rows.specs.Views.{corner_of, is_of_width}
 
@@ -102,8 +102,8 @@ pulse_end pin found =
     }
 
 -- the change of the data
-abbrev pub change_told : Held → Corner → Found → PinEvent
-change_told held corner found =
+abbrev pub change_finding : Held → Corner → Found → PinEvent
+change_finding held corner found =
     record { pin = held.pin; direction = found.direction; tick = found.tick; corner = corner }
 
 -- a pin of an instance is held against the steps of another one

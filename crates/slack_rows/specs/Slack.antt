@@ -142,67 +142,67 @@ pub data Place : Type 0 where
   AtLevel : ℕ → Place
 
 -- a slack, where it is, and by which pin and which of its steps
-pub record Told : Type 0 where
+pub record Finding : Type 0 where
   pub slack : Slack
   pub place : Place
   pub pin : ℕ
   pub direction : Direction
 
-abbrev pub told_alone : Slack → Told
-told_alone slack = record { slack = slack; place = Nowhere; pin = 0; direction = Change }
+abbrev pub finding_alone : Slack → Finding
+finding_alone slack = record { slack = slack; place = Nowhere; pin = 0; direction = Change }
 
-abbrev pub told_at : Slack → Place → Told
-told_at slack place = record { slack = slack; place = place; pin = 0; direction = Change }
+abbrev pub finding_at : Slack → Place → Finding
+finding_at slack place = record { slack = slack; place = place; pin = 0; direction = Change }
 
 -- the same by this pin and this direction
-abbrev pub told_of : ℕ → Direction → Told → Told
-told_of pin direction told =
-    record { slack = told.slack; place = told.place; pin = pin; direction = direction }
+abbrev pub finding_of : ℕ → Direction → Finding → Finding
+finding_of pin direction finding =
+    record { slack = finding.slack; place = finding.place; pin = pin; direction = direction }
 
 -- How many ticks lie from the last change before to the window, at the end of its region, and from
 -- the window to the first change after, at the begin of its own. Without a change nothing can
 -- break.
-abbrev pub before_at : ℕ → Events → Window → Option ℕ → Told
-before_at p ev w None = told_alone Free
-before_at p ev w (Some t) = told_at (Ticks (pos w.opens -ℤ pos t)) (At w (region_to p ev t))
+abbrev pub before_at : ℕ → Events → Window → Option ℕ → Finding
+before_at p ev w None = finding_alone Free
+before_at p ev w (Some t) = finding_at (Ticks (pos w.opens -ℤ pos t)) (At w (region_to p ev t))
 
-abbrev pub after_at : ℕ → Events → Window → Option ℕ → Told
-after_at p ev w None = told_alone Free
-after_at p ev w (Some t) = told_at (Ticks (pos t -ℤ pos (w.closes + 1))) (At w (region_from p ev t))
+abbrev pub after_at : ℕ → Events → Window → Option ℕ → Finding
+after_at p ev w None = finding_alone Free
+after_at p ev w (Some t) = finding_at (Ticks (pos t -ℤ pos (w.closes + 1))) (At w (region_from p ev t))
 
 -- By two launches, if there are two; or else by the regions.
-abbrev pub before_by : ℕ → Events → Window → Option (ℕ × ℕ) → Option ℕ → Told
+abbrev pub before_by : ℕ → Events → Window → Option (ℕ × ℕ) → Option ℕ → Finding
 before_by p ev w None last = before_at p ev w last
 before_by p ev w (Some ticks) last =
-    told_at (Ticks (pos w.opens -ℤ pos ticks.0)) (Arrived w ticks.0)
+    finding_at (Ticks (pos w.opens -ℤ pos ticks.0)) (Arrived w ticks.0)
 
-abbrev pub after_by : ℕ → Events → Window → Option (ℕ × ℕ) → Option ℕ → Told
+abbrev pub after_by : ℕ → Events → Window → Option (ℕ × ℕ) → Option ℕ → Finding
 after_by p ev w None first = after_at p ev w first
 after_by p ev w (Some ticks) first =
-    told_at (Ticks (pos ticks.1 -ℤ pos (w.closes + 1))) (Arrived w ticks.1)
+    finding_at (Ticks (pos ticks.1 -ℤ pos (w.closes + 1))) (Arrived w ticks.1)
 
-abbrev pub before_window : ℕ → Events → Launches → Window → Told
+abbrev pub before_window : ℕ → Events → Launches → Window → Finding
 before_window p ev launches w =
     before_by p ev w (two_launches launches w (met p ev w)) (last_before p ev (launches.side w) w)
 
-abbrev pub after_window : ℕ → Events → Launches → Window → Told
+abbrev pub after_window : ℕ → Events → Launches → Window → Finding
 after_window p ev launches w =
     after_by p ev w (two_launches launches w (met p ev w)) (first_after p ev (launches.side w) w)
 
 -- ---- the least of several
 
 -- of two the second only if it is less
-abbrev pub lesser : Told → Told → Told
-lesser best told = if is_less told.slack best.slack then told else best
+abbrev pub lesser : Finding → Finding → Finding
+lesser best finding = if is_less finding.slack best.slack then finding else best
 
 -- the first that none after it is less than
-abbrev pub least_from : Told → List Told → Told
+abbrev pub least_from : Finding → List Finding → Finding
 least_from best [] = best
-least_from best (told ∷ more) =
-    if is_less told.slack best.slack then least_from told more else least_from best more
+least_from best (finding ∷ more) =
+    if is_less finding.slack best.slack then least_from finding more else least_from best more
 
-abbrev pub least : List Told → Told
-least tellings = least_from (told_alone Free) tellings
+abbrev pub least : List Finding → Finding
+least findings = least_from (finding_alone Free) findings
 
 -- ---- the slacks of a watch
 
@@ -230,18 +230,18 @@ without_number false way = by_way way
 
 -- No change is none; if it may come in every slot, or is never to come, there is no number of
 -- the wave.
-abbrev pub told_by : (Window → Told) → Option ℤ → ℕ → Watch → Told
-told_by at way p watch =
+abbrev pub finding_by : (Window → Finding) → Option ℤ → ℕ → Watch → Finding
+finding_by at way p watch =
     if some_event p watch.changes && is_met watch.windows watch.never
     then (if all_events p watch.changes || watch.never
-    then told_alone (without_number watch.never way)
+    then finding_alone (without_number watch.never way)
     else least (map at watch.windows))
-    else told_alone Free
+    else finding_alone Free
 
-abbrev pub told_before : ℕ → Launches → Watch → Told
-told_before p launches watch =
-    told_by (before_window p watch.changes launches) launches.last_way p watch
+abbrev pub finding_before : ℕ → Launches → Watch → Finding
+finding_before p launches watch =
+    finding_by (before_window p watch.changes launches) launches.last_way p watch
 
-abbrev pub told_after : ℕ → Launches → Watch → Told
-told_after p launches watch =
-    told_by (after_window p watch.changes launches) launches.first_way p watch
+abbrev pub finding_after : ℕ → Launches → Watch → Finding
+finding_after p launches watch =
+    finding_by (after_window p watch.changes launches) launches.first_way p watch

@@ -19,14 +19,14 @@ use Rattle.slack_rows.specs.declared.slack.By.{By}
 use Rattle.slack_rows.specs.declared.slack.By.TheVariants.{Region as ByRegion, Way as ByWay, Quiet, Pulse, Swallowed, Repeated, Nothing}
 use Rattle.slack_rows.specs.declared.slack.Rank.{Rank}
 use Rattle.slack_rows.specs.declared.slack.Slacks.{Slacks}
-use Rattle.slack_rows.specs.declared.slack.Told.{Told as Found}
+use Rattle.slack_rows.specs.declared.slack.Finding.{Finding as Found}
 use Rattle.slack_rows.specs.declared.around.Side.{Side as Counted}
 use Rattle.slack_rows.specs.declared.around.Side.TheVariants.{Before as LiesBefore, Late as CountsLate, Early as CountsEarly, Either as CountsEither, Two as CountsTwo, After as LiesAfter}
 use Rattle.slack_rows.specs.declared.table.Shape.{Shape}
 use Rattle.slack_rows.specs.declared.window.Window.{Window as Around}
 use Rattle.slack_rows.specs.declared.window.Extent.{Extent}
 use Rattle.slack_rows.specs.Window.{Window, Side, Late, Early, Either, extent_of}
-use Rattle.slack_rows.specs.Slack.{Slack, Free, Ticks, Way, NoNumber, Place, Nowhere, At, Arrived, InPulse, AtLevel, Told, is_broken, is_less}
+use Rattle.slack_rows.specs.Slack.{Slack, Free, Ticks, Way, NoNumber, Place, Nowhere, At, Arrived, InPulse, AtLevel, Finding, is_broken, is_less}
 
 -- ---- slacks
 
@@ -36,9 +36,9 @@ slack_by (NumberOfTicks n) = Ticks n
 slack_by (NumberOfWay n) = Way n
 
 -- none is that nothing can break it
-abbrev pub slack_told : Option Found → Slack
-slack_told None = Free
-slack_told (Some found) = slack_by found.slack
+abbrev pub slack_finding : Option Found → Slack
+slack_finding None = Free
+slack_finding (Some found) = slack_by found.slack
 
 abbrev pub number_of : Number → Option ℤ
 number_of (NumberOfNone reason) = None
@@ -55,7 +55,7 @@ rank_of slack = record { is_met = not (is_broken (slack_by slack)); ticks = numb
 
 -- of two the second only if it is less
 abbrev pub lesser_found : Option Found → Option Found → Option Found
-lesser_found best found = if is_less (slack_told found) (slack_told best) then found else best
+lesser_found best found = if is_less (slack_finding found) (slack_finding best) then found else best
 
 -- ---- where they are
 
@@ -114,8 +114,8 @@ place_of p found (NumberOfNone reason) = place_without reason
 place_of p found (NumberOfTicks n) = place_by p found found.by
 place_of p found (NumberOfWay n) = Nowhere
 
-abbrev pub told_by_found : ℕ → Found → Told
-told_by_found p found =
+abbrev pub finding_by_found : ℕ → Found → Finding
+finding_by_found p found =
     record {
       slack = slack_by found.slack;
       place = place_of p found found.slack;
@@ -144,14 +144,14 @@ abbrev pub shape_in : ℕ → Ticked → Shape
 shape_in p r = record { slot = slot_of p r.first; ticks = r.last -ℤ r.first }
 
 -- the region that it comes from, if it comes from one
-abbrev pub region_told : By → Option Ticked
-region_told (ByRegion region) = Some region
-region_told (ByWay node) = None
-region_told Quiet = None
-region_told Pulse = None
-region_told Swallowed = None
-region_told Repeated = None
-region_told Nothing = None
+abbrev pub region_finding : By → Option Ticked
+region_finding (ByRegion region) = Some region
+region_finding (ByWay node) = None
+region_finding Quiet = None
+region_finding Pulse = None
+region_finding Swallowed = None
+region_finding Repeated = None
+region_finding Nothing = None
 
 abbrev pub IsNear : ℕ → Found → By → Type 0
 IsNear p found (ByRegion region) = IsByRegion p found region
@@ -162,14 +162,14 @@ IsNear p found Swallowed = Unit {0}
 IsNear p found Repeated = Unit {0}
 IsNear p found Nothing = Unit {0}
 
-pub record IsTold (p : ℕ) (found : Found) (told : Told) : Type 0 where
-  pub is : told ≡ told_by_found p found
+pub record IsFinding (p : ℕ) (found : Found) (finding : Finding) : Type 0 where
+  pub is : finding ≡ finding_by_found p found
   pub near : IsNear p found found.by
 
 -- The program's slack is the defined one: if nothing can break, none.
-abbrev pub Tells : ℕ → Option Found → Told → Type 0
-Tells p None told = told.slack ≡ Free
-Tells p (Some found) told = IsTold p found told
+abbrev pub Tells : ℕ → Option Found → Finding → Type 0
+Tells p None finding = finding.slack ≡ Free
+Tells p (Some found) finding = IsFinding p found finding
 
 -- how many ticks lie between a tick and a window, before it or after it
 abbrev pub spare_at : Corner → Around → ℤ → ℤ
@@ -181,8 +181,8 @@ abbrev pub end_at : Corner → Ticked → ℤ
 end_at LateCorner r = r.last
 end_at EarlyCorner r = r.first
 
-abbrev pub told_by_region : ℕ → Direction → Corner → Around → Ticked → Found
-told_by_region pin direction corner w r =
+abbrev pub finding_by_region : ℕ → Direction → Corner → Around → Ticked → Found
+finding_by_region pin direction corner w r =
     record {
       slack = NumberOfTicks (spare_at corner w (end_at corner r));
       window = w;
@@ -292,8 +292,8 @@ slack_for slacks Assert = slacks.level
 slack_for slacks StableTo = slacks.after
 
 -- no number
-abbrev pub told_none : Reason → ℕ → Direction → Found
-told_none reason pin direction =
+abbrev pub finding_none : Reason → ℕ → Direction → Found
+finding_none reason pin direction =
     record {
       slack = NumberOfNone reason;
       window = window_about (record { first = pos 0; last = pos 0 }) (extent_of 0 0);
@@ -314,9 +314,9 @@ level_slot (Some Mark) = None
 level_slot (Some Still) = None
 level_slot (Some (Level high slot)) = Some slot
 
-abbrev pub told_level_by : Option Reason → Option Found
-told_level_by None = None
-told_level_by (Some reason) = Some (told_none reason 0 Change)
+abbrev pub finding_level_by : Option Reason → Option Found
+finding_level_by None = None
+finding_level_by (Some reason) = Some (finding_none reason 0 Change)
 
 -- the step with which the windows of a checker end
 abbrev pub closing : Check → Direction

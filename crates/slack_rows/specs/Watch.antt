@@ -68,9 +68,9 @@ abbrev pub follows : Option ℕ → ℕ → Bool
 follows None high = false
 follows (Some before) high = before == high + 1
 
-abbrev pub span_told : ℕ → Option ℕ → Option ℕ → Option Region
-span_told t before None = None
-span_told t before (Some high) =
+abbrev pub span_finding : ℕ → Option ℕ → Option ℕ → Option Region
+span_finding t before None = None
+span_finding t before (Some high) =
     if follows before high then None else Some (record { first = t; last = t + high })
 
 -- it may stay at 1 in every slot

@@ -10,14 +10,14 @@ ghost use Rattle.critical_paths.specs.declared.direction.Direction.TheVariants.{
 ghost use Rattle.critical_paths.specs.Event.{events};
 ghost use Rattle.critical_paths.specs.Known.{Knows};
 ghost use Rattle.critical_paths.specs.Views.{Sees};
-ghost use Rattle.slack_rows.specs.Held.{GoesOn, IsLevelTold, TellDirections, TellParts, is_high_outside, is_step_outside, lacking, watch_at};
-ghost use Rattle.slack_rows.specs.Limit.{steps_outside, told_net};
+ghost use Rattle.slack_rows.specs.Held.{GoesOn, IsLevelFinding, TellDirections, TellParts, is_high_outside, is_step_outside, lacking, watch_at};
+ghost use Rattle.slack_rows.specs.Limit.{steps_outside, finding_net};
 ghost use Rattle.slack_rows.specs.Slack.{no_launches};
-ghost use Rattle.slack_rows.specs.Views.{Tells, lesser_found, told_level_by};
+ghost use Rattle.slack_rows.specs.Views.{Tells, lesser_found, finding_level_by};
 ghost use Rattle.slack_rows.specs.Watch.{directions_of};
 ghost use Rattle.slack_rows.specs.declared.parameter.Word.TheVariants.{Assert, From as StableFrom, To as StableTo};
 
-use crate::slack::{Reason, Slacks, Told, lesser};
+use crate::slack::{Finding, Reason, Slacks, lesser};
 use crate::watch::{slots, still_slacks};
 use critical_paths::{Direction, Paths, Test, View};
 use flat_circuit::Net;
@@ -90,7 +90,7 @@ fn first_level<W: CyclicWave<Item = Value>>(fold: &W, wide: &W) -> Option<Reason
     requires { length (W.cells wide.now) ≡ length (W.cells fold.now) }
     ensures { let p = length (W.cells fold.now) in let found = read (W.cells fold.now) in
         let permitted = read (W.cells wide.now) in
-        IsLevelTold (λ t. is_high_outside (found t) (permitted t)) result
+        IsLevelFinding (λ t. is_high_outside (found t) (permitted t)) result
         (steps_outside p found permitted) (first_excess p found permitted) }
 {
     if is_outside(fold, wide) {
@@ -107,13 +107,16 @@ fn first_level<W: CyclicWave<Item = Value>>(fold: &W, wide: &W) -> Option<Reason
 
 /// The slacks with that of a level that an assertion does not permit.
 fn with_level(slacks: Slacks, level: Option<Reason>) -> Slacks
-    ensures level { result.level ≡ lesser_found slacks.level (told_level_by level) }
+    ensures level { result.level ≡ lesser_found slacks.level (finding_level_by level) }
     ensures before { result.before ≡ slacks.before }
     ensures after { result.after ≡ slacks.after }
 {
     match level {
         Some(reason) => Slacks {
-            level: lesser(slacks.level, Some(Told::none(reason, 0, Direction::Change))),
+            level: lesser(
+                slacks.level,
+                Some(Finding::none(reason, 0, Direction::Change)),
+            ),
             ..slacks
         },
         None => slacks,
@@ -135,7 +138,7 @@ fn steps<W: CyclicWave<Item = Value>>(
     requires wide { length (W.cells wide.now) ≡ period view.now.circuit.now.header }
     ensures paths { OnOk result (GoesOn view.now.circuit.now (waves_of view.now.waves.now)
         paths.old.nodes paths.new.nodes paths.new.met.entries) }
-    ensures told { let p = period view.now.circuit.now.header in IfOk result
+    ensures finding { let p = period view.now.circuit.now.header in IfOk result
         (TellParts p no_launches (λ w r. false) 0 direction
         (watch_at p (events direction (read (W.cells fold.now)))
         (lacking direction (read (W.cells wide.now))))) }
@@ -159,7 +162,7 @@ fn both_steps<W: CyclicWave<Item = Value>>(
     requires wide { length (W.cells wide.now) ≡ period view.now.circuit.now.header }
     ensures paths { OnOk result (GoesOn view.now.circuit.now (waves_of view.now.waves.now)
         paths.old.nodes paths.new.nodes paths.new.met.entries) }
-    ensures told { let p = period view.now.circuit.now.header in IfOk result
+    ensures finding { let p = period view.now.circuit.now.header in IfOk result
         (TellDirections p (read (W.cells fold.now)) (read (W.cells wide.now))
         (Rise ∷ Fall ∷ [])) }
 {
@@ -183,7 +186,7 @@ fn all_steps<W: CyclicWave<Item = Value>>(
     requires wide { length (W.cells wide.now) ≡ period view.now.circuit.now.header }
     ensures paths { OnOk result (GoesOn view.now.circuit.now (waves_of view.now.waves.now)
         paths.old.nodes paths.new.nodes paths.new.met.entries) }
-    ensures told { let p = period view.now.circuit.now.header in IfOk result
+    ensures finding { let p = period view.now.circuit.now.header in IfOk result
         (TellDirections p (read (W.cells fold.now)) (read (W.cells wide.now))
         (directions_of spec.now)) }
 {
@@ -217,11 +220,11 @@ pub fn net_slacks<W: CyclicWave<Item = Value>>(
     requires net { slice_get view.now.circuit.now.nets number ≡ Some net.now }
     ensures paths { OnOk result (GoesOn view.now.circuit.now (waves_of view.now.waves.now)
         paths.old.nodes paths.new.nodes paths.new.met.entries) }
-    ensures told { let c = view.now.circuit.now in let ws = waves_of view.now.waves.now in
+    ensures finding { let c = view.now.circuit.now in let ws = waves_of view.now.waves.now in
         IfOk result (λ found.
-        (Tells (period c.header) found.level (told_net c ws number net.now Assert))
-        × (Tells (period c.header) found.before (told_net c ws number net.now StableFrom))
-        × (Tells (period c.header) found.after (told_net c ws number net.now StableTo))) }
+        (Tells (period c.header) found.level (finding_net c ws number net.now Assert))
+        × (Tells (period c.header) found.before (finding_net c ws number net.now StableFrom))
+        × (Tells (period c.header) found.after (finding_net c ws number net.now StableTo))) }
 {
     // no period is short
     let _period = view.period();

@@ -13,7 +13,7 @@ ghost use Rattle.critical_paths.specs.Views.{IsPin, Sees};
 ghost use Rattle.slack_rows.specs.Held.{GoesOn, IsHeld, step_held};
 ghost use Rattle.slack_rows.specs.Launched.{opening};
 ghost use Rattle.flat_circuit.specs.declared.instance.Pin.{Pin};
-ghost use Rattle.slack_rows.specs.Shown.{ExplainAt, ExplainEnds, Explains, IsEndPathOf, IsHeldAt, IsPathOf, IsPathOfNet, ShowAt, ShowsAt, change_told, clock_tick, data_tick, edge_tick, is_by_paths, is_by_way, net_change, pulse_end};
+ghost use Rattle.slack_rows.specs.Shown.{ExplainAt, ExplainEnds, Explains, IsEndPathOf, IsHeldAt, IsPathOf, IsPathOfNet, ShowAt, ShowsAt, change_finding, clock_tick, data_tick, edge_tick, is_by_paths, is_by_way, net_change, pulse_end};
 ghost use Rattle.slack_rows.specs.Views.{corner_of, is_of_width};
 
 use crate::checker::held_by;
@@ -21,7 +21,7 @@ use crate::gate::held_beside;
 use crate::held::Held;
 use crate::limits::marked_pin;
 use crate::parameter::{Parameter, Subject};
-use crate::slack::{By, Told};
+use crate::slack::{By, Finding};
 use crate::window::Window;
 use critical_paths::{At, Corner, Event, Paths, PinEvent, Reading, View};
 use fixpoint_engine::wire_behind;
@@ -61,38 +61,38 @@ fn pulse_paths<W: CyclicWave<Item = Value>>(
     view: &View<W>,
     paths: &mut Paths,
     checker: &Instance,
-    told: Told,
+    finding: Finding,
 ) -> Result<Causes, NoMemory>
     requires sees { Sees view.now.circuit.now view.now.waves.now view.now.hazards.now }
     requires knows { Knows view.now.circuit.now (waves_of view.now.waves.now) paths.old.nodes
         paths.old.met.entries }
     requires pins { All (IsPin view.now.circuit.now) checker.now.pins }
-    requires first { IsWithin (2 ^ 44) told.window.first }
-    requires last { IsWithin (2 ^ 44) told.window.last }
+    requires first { IsWithin (2 ^ 44) finding.window.first }
+    requires last { IsWithin (2 ^ 44) finding.window.last }
     ensures paths { OnOk result (GoesOn view.now.circuit.now (waves_of view.now.waves.now)
         paths.old.nodes paths.new.nodes paths.new.met.entries) }
-    ensures begin { IfOk result (λ found. ShowsAt told.window.first found.«data») }
-    ensures end { IfOk result (λ found. ShowsAt told.window.last found.clock) }
+    ensures begin { IfOk result (λ found. ShowsAt finding.window.first found.«data») }
+    ensures end { IfOk result (λ found. ShowsAt finding.window.last found.clock) }
     ensures corners { IfOk result (λ found.
         Explains paths.new.nodes Corner.Late found.«data»
         × Explains paths.new.nodes Corner.Early found.clock) }
     ensures step { (pin : Pin) → slice_get checker.now.pins 0 ≡ Some pin → IfOk result (λ found.
         IsEndPathOf view.now.circuit.now (waves_of view.now.waves.now) paths.new.nodes
-        (pulse_end pin told) found.clock) }
+        (pulse_end pin finding) found.clock) }
 {
     let Some(pin) = checker.pins.as_slice().get(0) else {
         return Ok(Causes::NONE);
     };
     let begin = PinEvent {
         pin: *pin,
-        direction: told.direction,
-        tick: told.window.first,
+        direction: finding.direction,
+        tick: finding.window.first,
         corner: Corner::Late,
     };
     let end = PinEvent {
         pin: *pin,
-        direction: told.direction.turned(true),
-        tick: told.window.last,
+        direction: finding.direction.turned(true),
+        tick: finding.window.last,
         corner: Corner::Early,
     };
     let data = view.end_path(paths, begin)?;
@@ -128,23 +128,23 @@ fn change_path<W: CyclicWave<Item = Value>>(
     paths: &mut Paths,
     held: Held,
     corner: Corner,
-    told: Told,
+    finding: Finding,
 ) -> Result<Option<At>, NoMemory>
     requires sees { Sees view.now.circuit.now view.now.waves.now view.now.hazards.now }
     requires knows { Knows view.now.circuit.now (waves_of view.now.waves.now) paths.old.nodes
         paths.old.met.entries }
     requires held { IsHeld view.now.circuit.now held }
-    requires tick { IsWithin (2 ^ 44) told.tick }
+    requires tick { IsWithin (2 ^ 44) finding.tick }
     ensures paths { OnOk result (GoesOn view.now.circuit.now (waves_of view.now.waves.now)
         paths.old.nodes paths.new.nodes paths.new.met.entries) }
-    ensures tick { IfOk result (ShowsAt told.tick) }
+    ensures tick { IfOk result (ShowsAt finding.tick) }
     ensures is { IfOk result (IsPathOf view.now.circuit.now (waves_of view.now.waves.now)
-        paths.new.nodes (change_told held corner told)) }
+        paths.new.nodes (change_finding held corner finding)) }
 {
     let change = PinEvent {
         pin: held.pin,
-        direction: told.direction,
-        tick: told.tick,
+        direction: finding.direction,
+        tick: finding.tick,
         corner,
     };
     let path = view.pin_path(paths, change)?;
@@ -181,23 +181,23 @@ fn data_path<W: CyclicWave<Item = Value>>(
     paths: &mut Paths,
     held: Held,
     corner: Corner,
-    told: Told,
+    finding: Finding,
 ) -> Result<Option<At>, NoMemory>
     requires sees { Sees view.now.circuit.now view.now.waves.now view.now.hazards.now }
     requires knows { Knows view.now.circuit.now (waves_of view.now.waves.now) paths.old.nodes
         paths.old.met.entries }
     requires held { IsHeld view.now.circuit.now held }
-    requires tick { IsWithin (2 ^ 44) told.tick }
+    requires tick { IsWithin (2 ^ 44) finding.tick }
     ensures paths { OnOk result (GoesOn view.now.circuit.now (waves_of view.now.waves.now)
         paths.old.nodes paths.new.nodes paths.new.met.entries) }
-    ensures tick { IfOk result (ShowsAt told.tick) }
-    ensures is { is_by_way told.by ≡ false → IfOk result (IsPathOf view.now.circuit.now
-        (waves_of view.now.waves.now) paths.new.nodes (change_told held corner told)) }
+    ensures tick { IfOk result (ShowsAt finding.tick) }
+    ensures is { is_by_way finding.by ≡ false → IfOk result (IsPathOf view.now.circuit.now
+        (waves_of view.now.waves.now) paths.new.nodes (change_finding held corner finding)) }
 {
-    if let By::Way(node) = told.by {
-        return Ok(Some(way_path(view, held, corner, node, told.tick)));
+    if let By::Way(node) = finding.by {
+        return Ok(Some(way_path(view, held, corner, node, finding.tick)));
     }
-    let data = change_path(view, paths, held, corner, told)?;
+    let data = change_path(view, paths, held, corner, finding)?;
     Ok(data)
 }
 
@@ -232,27 +232,27 @@ fn held_paths<W: CyclicWave<Item = Value>>(
     paths: &mut Paths,
     instance: &Instance,
     corner: Corner,
-    told: Told,
+    finding: Finding,
 ) -> Result<Causes, NoMemory>
     requires sees { Sees view.now.circuit.now view.now.waves.now view.now.hazards.now }
     requires knows { Knows view.now.circuit.now (waves_of view.now.waves.now) paths.old.nodes
         paths.old.met.entries }
     requires pins { All (IsPin view.now.circuit.now) instance.now.pins }
-    requires first { IsWithin (2 ^ 44) told.window.first }
-    requires last { IsWithin (2 ^ 44) told.window.last }
-    requires tick { IsWithin (2 ^ 44) told.tick }
+    requires first { IsWithin (2 ^ 44) finding.window.first }
+    requires last { IsWithin (2 ^ 44) finding.window.last }
+    requires tick { IsWithin (2 ^ 44) finding.tick }
     ensures paths { OnOk result (GoesOn view.now.circuit.now (waves_of view.now.waves.now)
         paths.old.nodes paths.new.nodes paths.new.met.entries) }
-    ensures change { IfOk result (λ found. ShowsAt told.tick found.«data») }
-    ensures edge { IfOk result (λ found. ShowsAt (edge_tick corner told.window) found.clock) }
+    ensures change { IfOk result (λ found. ShowsAt finding.tick found.«data») }
+    ensures edge { IfOk result (λ found. ShowsAt (edge_tick corner finding.window) found.clock) }
     ensures corner { IfOk result (λ found.
         Explains paths.new.nodes (other_corner corner) found.clock) }
 {
-    let Some(held) = held_of(instance, told.pin) else {
+    let Some(held) = held_of(instance, finding.pin) else {
         return Ok(Causes::NONE);
     };
-    let clock = edge_path(view, paths, held, corner, told.window)?;
-    let data = data_path(view, paths, held, corner, told)?;
+    let clock = edge_path(view, paths, held, corner, finding.window)?;
+    let data = data_path(view, paths, held, corner, finding)?;
     Ok(Causes { data, clock })
 }
 
@@ -262,26 +262,26 @@ fn net_paths<W: CyclicWave<Item = Value>>(
     paths: &mut Paths,
     net: u32,
     corner: Corner,
-    told: Told,
+    finding: Finding,
 ) -> Result<Causes, NoMemory>
     requires sees { Sees view.now.circuit.now view.now.waves.now view.now.hazards.now }
     requires knows { Knows view.now.circuit.now (waves_of view.now.waves.now) paths.old.nodes
         paths.old.met.entries }
     ensures paths { OnOk result (GoesOn view.now.circuit.now (waves_of view.now.waves.now)
         paths.old.nodes paths.new.nodes paths.new.met.entries) }
-    ensures change { IfOk result (λ found. IfSome found.«data» (λ at. at.tick ≡ told.tick)) }
+    ensures change { IfOk result (λ found. IfSome found.«data» (λ at. at.tick ≡ finding.tick)) }
     ensures none { IfOk result (λ found. found.clock ≡ None) }
     ensures corner { IfOk result (λ found. Explains paths.new.nodes corner found.«data») }
     ensures is { IfOk result (λ found. IfSome found.«data» (IsPathOfNet view.now.circuit.now
-        (waves_of view.now.waves.now) paths.new.nodes (net_change net corner told))) }
+        (waves_of view.now.waves.now) paths.new.nodes (net_change net corner finding))) }
 {
     let Some(_) = view.circuit.net(net) else {
         return Ok(Causes::NONE);
     };
     let event = Event {
         net,
-        direction: told.direction,
-        tick: told.tick,
+        direction: finding.direction,
+        tick: finding.tick,
         corner,
         reading: Reading::Folded,
     };
@@ -298,20 +298,20 @@ fn instance_paths<W: CyclicWave<Item = Value>>(
     paths: &mut Paths,
     number: u32,
     parameter: Parameter,
-    told: Told,
+    finding: Finding,
 ) -> Result<Causes, NoMemory>
     requires sees { Sees view.now.circuit.now view.now.waves.now view.now.hazards.now }
     requires knows { Knows view.now.circuit.now (waves_of view.now.waves.now) paths.old.nodes
         paths.old.met.entries }
-    requires first { IsWithin (2 ^ 44) told.window.first }
-    requires last { IsWithin (2 ^ 44) told.window.last }
-    requires tick { IsWithin (2 ^ 44) told.tick }
+    requires first { IsWithin (2 ^ 44) finding.window.first }
+    requires last { IsWithin (2 ^ 44) finding.window.last }
+    requires tick { IsWithin (2 ^ 44) finding.tick }
     ensures paths { OnOk result (GoesOn view.now.circuit.now (waves_of view.now.waves.now)
         paths.old.nodes paths.new.nodes paths.new.met.entries) }
     ensures change { IfOk result (λ found.
-        ShowsAt (data_tick (is_of_width parameter.word) told) found.«data») }
+        ShowsAt (data_tick (is_of_width parameter.word) finding) found.«data») }
     ensures edge { IfOk result (λ found. ShowsAt (clock_tick (is_of_width parameter.word)
-        (corner_of parameter.word) told) found.clock) }
+        (corner_of parameter.word) finding) found.clock) }
     ensures corners { IfOk result (λ found.
         ExplainEnds (is_of_width parameter.word) (corner_of parameter.word) paths.new.nodes
         found.«data» found.clock) }
@@ -320,9 +320,9 @@ fn instance_paths<W: CyclicWave<Item = Value>>(
         return Ok(Causes::NONE);
     };
     if parameter.word.is_width() {
-        return pulse_paths(view, paths, instance, told);
+        return pulse_paths(view, paths, instance, finding);
     }
-    held_paths(view, paths, instance, parameter.word.corner(), told)
+    held_paths(view, paths, instance, parameter.word.corner(), finding)
 }
 
 /// Whether a slack comes of paths: it has a number, and that is not one of quiet ticks or of a
@@ -341,7 +341,7 @@ pub fn causes_of<W: CyclicWave<Item = Value>>(
     view: &View<W>,
     paths: &mut Paths,
     parameter: Parameter,
-    told: Told,
+    finding: Finding,
 ) -> Result<Causes, NoMemory>
     requires sees { Sees view.now.circuit.now view.now.waves.now view.now.hazards.now }
     requires knows { Knows view.now.circuit.now (waves_of view.now.waves.now) paths.old.nodes
@@ -349,27 +349,27 @@ pub fn causes_of<W: CyclicWave<Item = Value>>(
     ensures paths { OnOk result (GoesOn view.now.circuit.now (waves_of view.now.waves.now)
         paths.old.nodes paths.new.nodes paths.new.met.entries) }
     ensures ticks { IfOk result (λ found.
-        ShowAt parameter.subject parameter.word told found.«data» found.clock) }
+        ShowAt parameter.subject parameter.word finding found.«data» found.clock) }
     ensures corners { IfOk result (λ found. ExplainAt parameter.subject parameter.word
         paths.new.nodes found.«data» found.clock) }
-    ensures none { is_by_paths told.by ≡ false → IfOk result (λ found.
+    ensures none { is_by_paths finding.by ≡ false → IfOk result (λ found.
         (found.«data» ≡ None) × (found.clock ≡ None)) }
 {
-    if !comes_of_paths(told.by) {
+    if !comes_of_paths(finding.by) {
         return Ok(Causes::NONE);
     }
     // no slack lies so far from the first period
-    if told.tick.unsigned_abs() > FAR {
+    if finding.tick.unsigned_abs() > FAR {
         return Ok(Causes::NONE);
     }
-    if told.window.first.unsigned_abs() > FAR {
+    if finding.window.first.unsigned_abs() > FAR {
         return Ok(Causes::NONE);
     }
-    if told.window.last.unsigned_abs() > FAR {
+    if finding.window.last.unsigned_abs() > FAR {
         return Ok(Causes::NONE);
     }
     match parameter.subject {
-        Subject::Instance(number) => instance_paths(view, paths, number, parameter, told),
-        Subject::Net(net) => net_paths(view, paths, net, parameter.word.corner(), told),
+        Subject::Instance(number) => instance_paths(view, paths, number, parameter, finding),
+        Subject::Net(net) => net_paths(view, paths, net, parameter.word.corner(), finding),
     }
 }

@@ -16,8 +16,8 @@ ghost use Rattle.critical_paths.specs.Known.{Knows};
 ghost use Rattle.critical_paths.specs.Views.{Sees};
 ghost use Rattle.slack_rows.specs.Held.{AreChanges, AreOfWays, AreSlots, GoesOn, IsHeld, IsInPeriod, IsSlots, TellSides, TellWatch, TellWindows, launches_of, two_of, windows_about};
 ghost use Rattle.slack_rows.specs.Laws.{IsPlaced};
-ghost use Rattle.slack_rows.specs.Limit.{check_by_arrivals, edge_limits as limits_at_edges, has_no_window, is_by_arrivals, told_check};
-ghost use Rattle.slack_rows.specs.Views.{checks_edges, closing, told_none};
+ghost use Rattle.slack_rows.specs.Limit.{check_by_arrivals, edge_limits as limits_at_edges, has_no_window, is_by_arrivals, finding_check};
+ghost use Rattle.slack_rows.specs.Views.{checks_edges, closing, finding_none};
 ghost use Rattle.slack_rows.specs.Watch.{rise_watch, span_watch};
 ghost use Rattle.slack_rows.specs.declared.parameter.Word.TheVariants.{Setup, Hold};
 
@@ -86,7 +86,7 @@ fn about_edges<W: CyclicWave<Item = Value>>(
     ensures paths { OnOk result (GoesOn view.now.circuit.now (waves_of view.now.waves.now)
         paths.old.nodes paths.new.nodes paths.new.met.entries) }
     ensures level { IfOk result (λ found. found.level ≡ None) }
-    ensures told { let c = view.now.circuit.now in let p = period c.header in
+    ensures finding { let c = view.now.circuit.now in let p = period c.header in
         let ws = waves_of view.now.waves.now in
         let windows = windows_about p extent edges.now in (ev : Events) →
         AreChanges p ev changes.now.regions → changes.now.are_all ≡ false →
@@ -129,7 +129,7 @@ fn span_slacks<W: CyclicWave<Item = Value>>(
     requires changes { IsSlots (period view.now.circuit.now.header) changes.now }
     ensures paths { OnOk result (GoesOn view.now.circuit.now (waves_of view.now.waves.now)
         paths.old.nodes paths.new.nodes paths.new.met.entries) }
-    ensures told { let c = view.now.circuit.now in let p = period c.header in
+    ensures finding { let c = view.now.circuit.now in let p = period c.header in
         let ws = waves_of view.now.waves.now in (input : Folds) →
         IsCyclic p (events Change input) → some_event p (events Change input) ≡ true →
         AreSlots p (events Change input) changes.now →
@@ -138,7 +138,7 @@ fn span_slacks<W: CyclicWave<Item = Value>>(
         (is_by_arrivals p (two_of c ws (Some held)) watch) held.place Change watch) }
     ensures never { (input : Folds) → (span_watch (length (W.cells clock.now))
         (limits_at_edges limits) (read (W.cells clock.now)) input).never ≡ true →
-        IfOk result (λ found. found.before ≡ Some (told_none Reason.High held.place Change)) }
+        IfOk result (λ found. found.before ≡ Some (finding_none Reason.High held.place Change)) }
 {
     if stays_high(clock) {
         return Ok(Slacks::none(Reason::High, held.place, Direction::Change));
@@ -170,7 +170,7 @@ fn rise_slacks<W: CyclicWave<Item = Value>>(
     requires changes { IsSlots (period view.now.circuit.now.header) changes.now }
     ensures paths { OnOk result (GoesOn view.now.circuit.now (waves_of view.now.waves.now)
         paths.old.nodes paths.new.nodes paths.new.met.entries) }
-    ensures told { let c = view.now.circuit.now in let p = period c.header in
+    ensures finding { let c = view.now.circuit.now in let p = period c.header in
         let ws = waves_of view.now.waves.now in (input : Folds) →
         IsCyclic p (events Change input) → some_event p (events Change input) ≡ true →
         AreSlots p (events Change input) changes.now →
@@ -179,7 +179,7 @@ fn rise_slacks<W: CyclicWave<Item = Value>>(
         (is_by_arrivals p (two_of c ws (Some held)) watch) held.place Change watch) }
     ensures never { let p = period view.now.circuit.now.header in (input : Folds) →
         (rise_watch p (limits_at_edges limits) (read (W.cells clock.now)) input).never ≡ true →
-        IfOk result (λ found. found.before ≡ Some (told_none Reason.Clock held.place Change)) }
+        IfOk result (λ found. found.before ≡ Some (finding_none Reason.Clock held.place Change)) }
 {
     let edges = slots(view, clock, Test::May(Direction::Rise))?;
     if edges.are_all {
@@ -225,10 +225,10 @@ pub fn checker_slacks<W: CyclicWave<Item = Value>>(
         (length view.now.circuit.now.nets) checker.now }
     ensures paths { OnOk result (GoesOn view.now.circuit.now (waves_of view.now.waves.now)
         paths.old.nodes paths.new.nodes paths.new.met.entries) }
-    ensures told { let c = view.now.circuit.now in let ws = waves_of view.now.waves.now in
+    ensures finding { let c = view.now.circuit.now in let ws = waves_of view.now.waves.now in
         let j = checker.now in IfOk result
         (TellSides (period c.header) (check_by_arrivals c ws j (Some check))
-        (told_check c ws j Setup (Some check)) (told_check c ws j Hold (Some check))) }
+        (finding_check c ws j Setup (Some check)) (finding_check c ws j Hold (Some check))) }
 {
     // no period is short
     let _period = view.period();

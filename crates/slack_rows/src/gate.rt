@@ -16,7 +16,7 @@ ghost use Rattle.critical_paths.specs.Known.{Knows};
 ghost use Rattle.critical_paths.specs.Views.{Sees};
 ghost use Rattle.slack_rows.specs.Held.{AreSlots, GoesOn, IsHeld, IsSlots, TellBeside, TellParts, TellSides, launches_of, two_of, watch_at};
 ghost use Rattle.slack_rows.specs.Launched.{opening};
-ghost use Rattle.slack_rows.specs.Limit.{mark_by_arrivals, pin_folds, told_mark};
+ghost use Rattle.slack_rows.specs.Limit.{mark_by_arrivals, pin_folds, finding_mark};
 ghost use Rattle.slack_rows.specs.Views.{Tells};
 ghost use Rattle.slack_rows.specs.Watch.{opens};
 ghost use Rattle.slack_rows.specs.declared.parameter.Word.TheVariants.{Gate, Before as GateBefore, After as GateAfter};
@@ -76,7 +76,7 @@ fn beside<W: CyclicWave<Item = Value>>(
     requires opened { IsSlots (period view.now.circuit.now.header) opened.now }
     ensures paths { OnOk result (GoesOn view.now.circuit.now (waves_of view.now.waves.now)
         paths.old.nodes paths.new.nodes paths.new.met.entries) }
-    ensures told { let c = view.now.circuit.now in let p = period c.header in
+    ensures finding { let c = view.now.circuit.now in let p = period c.header in
         let ws = waves_of view.now.waves.now in (lets : Events) → IsCyclic p lets →
         AreSlots p lets opened.now → IfOk result
         (TellParts p (launches_of c ws (Some held)) (two_of c ws (Some held)) held.place Change
@@ -121,7 +121,7 @@ fn beside_if<W: CyclicWave<Item = Value>>(
     requires opened { IsSlots (period view.now.circuit.now.header) opened.now }
     ensures paths { OnOk result (GoesOn view.now.circuit.now (waves_of view.now.waves.now)
         paths.old.nodes paths.new.nodes paths.new.met.entries) }
-    ensures told { let c = view.now.circuit.now in let p = period c.header in
+    ensures finding { let c = view.now.circuit.now in let p = period c.header in
         let ws = waves_of view.now.waves.now in
         AreSlots p (opens gate.now.kind (pin_folds c ws gate.now marked)) opened.now → IfOk result
         (TellBeside c ws gate.now marked place) }
@@ -156,11 +156,11 @@ pub fn gate_slacks<W: CyclicWave<Item = Value>>(
         paths.old.nodes paths.new.nodes paths.new.met.entries) }
     ensures level { let c = view.now.circuit.now in let ws = waves_of view.now.waves.now in
         IfOk result (λ found.
-        Tells (period c.header) found.level (told_mark c ws gate.now Gate (Some marked))) }
+        Tells (period c.header) found.level (finding_mark c ws gate.now Gate (Some marked))) }
     ensures sides { let c = view.now.circuit.now in let ws = waves_of view.now.waves.now in
         let j = gate.now in IfOk result
         (TellSides (period c.header) (mark_by_arrivals c ws j (Some marked))
-        (told_mark c ws j GateBefore (Some marked)) (told_mark c ws j GateAfter (Some marked))) }
+        (finding_mark c ws j GateBefore (Some marked)) (finding_mark c ws j GateAfter (Some marked))) }
 {
     // there is a slot, since no period is short
     let _period = view.period();

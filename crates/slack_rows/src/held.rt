@@ -2,10 +2,10 @@
 //! name asserts.
 
 ghost use Rattle.std.specs.Prelude.{◌≡◌};
-ghost use Rattle.slack_rows.specs.Arrived.{told_by_arrival};
+ghost use Rattle.slack_rows.specs.Arrived.{finding_by_arrival};
 ghost use Rattle.slack_rows.specs.Held.{place_in, step_held};
 
-use crate::slack::{By, Slack, Told};
+use crate::slack::{By, Finding, Slack};
 use crate::window::{Extent, Window};
 use critical_paths::{Arrival, Corner, Direction, PinEvent, Region};
 use flat_circuit::Pin;
@@ -60,10 +60,10 @@ impl Held {
     }
 
     /// A number of an arrival.
-    pub fn told(self, slack: Slack, window: Window, found: Arrival) -> Told
-        ensures { result ≡ told_by_arrival self slack window found }
+    pub fn finding(self, slack: Slack, window: Window, found: Arrival) -> Finding
+        ensures { result ≡ finding_by_arrival self slack window found }
     {
-        Told {
+        Finding {
             slack,
             window,
             pin: self.place,

@@ -9,7 +9,7 @@ ghost use Rattle.critical_paths.specs.Tick.{IsWithin, most_tick};
 ghost use Rattle.critical_paths.specs.Launch.{ago};
 ghost use Rattle.critical_paths.specs.Known.{Knows, ago_in, edge_in};
 ghost use Rattle.critical_paths.specs.Views.{IsPin, Sees};
-ghost use Rattle.slack_rows.specs.Held.{GoesOn, IsClose, IsCloseWindow, IsHeld, IsNearPath, MayBeHeld, edge_at_pin, held_edge, held_side, side_held, told_back, two_of};
+ghost use Rattle.slack_rows.specs.Held.{GoesOn, IsClose, IsCloseWindow, IsHeld, IsNearPath, MayBeHeld, edge_at_pin, held_edge, held_side, side_held, finding_back, two_of};
 ghost use Rattle.slack_rows.specs.Views.{ahead_of, is_two, meets_window, region_in, side_in, window_in};
 
 use crate::around::{Side, side_by};
@@ -37,7 +37,7 @@ pub fn step_path<W: CyclicWave<Item = Value>>(
     ensures near { IfOk result (λ found. IsNearPath paths.new.nodes found) }
     ensures edge { let c = view.now.circuit.now in let p = period c.header in
         IfOk result (λ found. option_and_then (edge_in paths.new.nodes) found
-        ≡ option_map (told_back (3 * p)) (edge_at_pin c (waves_of view.now.waves.now) step.corner
+        ≡ option_map (finding_back (3 * p)) (edge_at_pin c (waves_of view.now.waves.now) step.corner
         step.pin step.direction (ahead_of p step.tick))) }
 {
     // no period is short

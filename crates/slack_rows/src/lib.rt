@@ -54,5 +54,5 @@ pub use laws::{
 pub use limits::Parameters;
 pub use parameter::{Parameter, Subject, Word};
 pub use rows::{Least, Rows};
-pub use slack::{By, Rank, Reason, Slack, Told};
+pub use slack::{By, Finding, Rank, Reason, Slack};
 pub use window::Window;

@@ -4,11 +4,11 @@ ghost use Rattle.std.specs.Prelude.{◌≡◌, ◌<◌, ℕ, length};
 ghost use Rattle.fixpoint_engine.specs.Pins.{read};
 ghost use Rattle.critical_paths.specs.declared.direction.Direction.TheVariants.{Change, Rise};
 ghost use Rattle.critical_paths.specs.Event.{events};
-ghost use Rattle.slack_rows.specs.Limit.{least_still, still_after, still_before, told_still};
-ghost use Rattle.slack_rows.specs.Slack.{told_of};
+ghost use Rattle.slack_rows.specs.Limit.{least_still, still_after, still_before, finding_still};
+ghost use Rattle.slack_rows.specs.Slack.{finding_of};
 ghost use Rattle.slack_rows.specs.Views.{Tells};
 
-use crate::slack::{By, Slack, Slacks, Told};
+use crate::slack::{By, Finding, Slack, Slacks};
 use crate::window::{Extent, Window};
 use critical_paths::{Direction, Region};
 use step_values::Value;
@@ -46,15 +46,15 @@ fn quiet_after<W: CyclicWave<Item = Value>>(input: &W, slot: u16) -> Option<u16>
 }
 
 /// So many quiet slots about an edge in a slot.
-fn told(slot: u16, quiet: Option<u16>) -> Option<Told>
-    ensures { (p : ℕ) → Tells p result (told_of 1 Change (told_still quiet)) }
+fn finding(slot: u16, quiet: Option<u16>) -> Option<Finding>
+    ensures { (p : ℕ) → Tells p result (finding_of 1 Change (finding_still quiet)) }
 {
     let ticks = quiet?;
     let edge = Region {
         first: i64::from(slot),
         last: i64::from(slot),
     };
-    Some(Told {
+    Some(Finding {
         slack: Slack::Ticks(i64::from(ticks)),
         window: Window::about(edge, Extent::NONE),
         pin: 1,
@@ -68,11 +68,11 @@ fn told(slot: u16, quiet: Option<u16>) -> Option<Told>
 pub fn quiet_slacks<W: CyclicWave<Item = Value>>(clock: &W, input: &W) -> Slacks
     requires { length (W.cells input.now) ≡ length (W.cells clock.now) }
     ensures before { let p = length (W.cells clock.now) in
-        Tells p result.before (told_of 1 Change (least_still
+        Tells p result.before (finding_of 1 Change (least_still
         (still_before p (events Change (read (W.cells input.now)))) p
         (events Rise (read (W.cells clock.now))))) }
     ensures after { let p = length (W.cells clock.now) in
-        Tells p result.after (told_of 1 Change (least_still
+        Tells p result.after (finding_of 1 Change (least_still
         (still_after p (events Change (read (W.cells input.now)))) p
         (events Rise (read (W.cells clock.now))))) }
 {
@@ -81,8 +81,8 @@ pub fn quiet_slacks<W: CyclicWave<Item = Value>>(clock: &W, input: &W) -> Slacks
         if clock.at(slot).may_rise() {
             all = all.lesser(Slacks {
                 level: None,
-                before: told(slot, quiet_before(input, slot)),
-                after: told(slot, quiet_after(input, slot)),
+                before: finding(slot, quiet_before(input, slot)),
+                after: finding(slot, quiet_after(input, slot)),
             });
         }
     }

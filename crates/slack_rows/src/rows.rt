@@ -14,7 +14,7 @@ ghost use Rattle.slack_rows.specs.Shown.{ExplainAt, ShowAt};
 use crate::causes::{Causes, causes_of};
 use crate::limits::{Parameters, parameters_of};
 use crate::parameter::Parameter;
-use crate::slack::{Slacks, Told};
+use crate::slack::{Finding, Slacks};
 use crate::subject::slacks_at;
 use critical_paths::{At, Paths, View};
 use flat_circuit::Circuit;
@@ -31,7 +31,7 @@ pub type Sets = IndexSet<(usize, usize)>;
 /// of the set of all that have it.
 #[derive(Clone, Copy)]
 pub struct Least {
-    pub told: Told,
+    pub finding: Finding,
     pub data: Option<At>,
     pub clock: Option<At>,
     pub case: usize,
@@ -71,7 +71,7 @@ fn first<W: CyclicWave<Item = Value>>(
     paths: &mut Paths,
     sets: &mut Sets,
     parameter: Parameter,
-    told: Told,
+    finding: Finding,
     case: usize,
 ) -> Result<Least, NoMemory>
     requires sees { Sees view.now.circuit.now view.now.waves.now view.now.hazards.now }
@@ -79,16 +79,16 @@ fn first<W: CyclicWave<Item = Value>>(
         paths.old.met.entries }
     ensures paths { OnOk result (GoesOn view.now.circuit.now (waves_of view.now.waves.now)
         paths.old.nodes paths.new.nodes paths.new.met.entries) }
-    ensures least { IfOk result (λ found. IsFirst sets.old.keys told case sets.new.keys found) }
+    ensures least { IfOk result (λ found. IsFirst sets.old.keys finding case sets.new.keys found) }
     ensures shown { IfOk result (λ found.
-        ShowAt parameter.subject parameter.word told found.«data» found.clock) }
+        ShowAt parameter.subject parameter.word finding found.«data» found.clock) }
     ensures explained { IfOk result (λ found. ExplainAt parameter.subject parameter.word
         paths.new.nodes found.«data» found.clock) }
 {
-    let Causes { data, clock } = causes_of(view, paths, parameter, told)?;
+    let Causes { data, clock } = causes_of(view, paths, parameter, finding)?;
     let cases = set_with(sets, 0, case)?;
     Ok(Least {
-        told,
+        finding,
         data,
         clock,
         case,
@@ -103,7 +103,7 @@ fn lowered<W: CyclicWave<Item = Value>>(
     sets: &mut Sets,
     parameter: Parameter,
     least: Option<Least>,
-    told: Option<Told>,
+    finding: Option<Finding>,
     case: usize,
 ) -> Result<Option<Least>, NoMemory>
     requires sees { Sees view.now.circuit.now view.now.waves.now view.now.hazards.now }
@@ -112,18 +112,18 @@ fn lowered<W: CyclicWave<Item = Value>>(
     ensures paths { OnOk result (GoesOn view.now.circuit.now (waves_of view.now.waves.now)
         paths.old.nodes paths.new.nodes paths.new.met.entries) }
     ensures least { IfOk result (λ found.
-        IsLowered sets.old.keys least told case sets.new.keys found) }
+        IsLowered sets.old.keys least finding case sets.new.keys found) }
 {
-    let Some(told) = told else {
+    let Some(finding) = finding else {
         return Ok(least);
     };
     let Some(old) = least else {
-        return Ok(Some(first(view, paths, sets, parameter, told, case)?));
+        return Ok(Some(first(view, paths, sets, parameter, finding, case)?));
     };
-    if told.slack.is_less(old.told.slack) {
-        return Ok(Some(first(view, paths, sets, parameter, told, case)?));
+    if finding.slack.is_less(old.finding.slack) {
+        return Ok(Some(first(view, paths, sets, parameter, finding, case)?));
     }
-    if old.told.slack.is_less(told.slack) {
+    if old.finding.slack.is_less(finding.slack) {
         return Ok(least);
     }
     let cases = set_with(sets, old.cases, case)?;

@@ -13,12 +13,12 @@ ghost use Rattle.critical_paths.specs.Known.{Knows};
 ghost use Rattle.critical_paths.specs.Views.{Sees, later_by};
 ghost use Rattle.slack_rows.specs.Held.{AreAround, AreChanges, GoesOn, IsClose, IsCloseWindow, IsInPeriod, Lies, MayBeHeld, TellWindow, TellWindows, in_period, in_periods, launches_of, lies_by_ends, place_in, side_held, slacks_of_two, two_of, windows_about};
 ghost use Rattle.slack_rows.specs.Laws.{IsPlaced};
-ghost use Rattle.slack_rows.specs.Views.{end_at, region_in, told_by_region, window_about, window_in};
+ghost use Rattle.slack_rows.specs.Views.{end_at, region_in, finding_by_region, window_about, window_in};
 
 use crate::around::{Around, Side};
 use crate::held::{Held, Watch, place_of};
 use crate::launch::by_launch_if;
-use crate::slack::{By, Slack, Slacks, Told};
+use crate::slack::{By, Finding, Slack, Slacks};
 use crate::two::{by_two_if, meets_two};
 use crate::window::{Extent, Window, spare_at};
 use critical_paths::{Corner, Paths, Region, View};
@@ -41,16 +41,16 @@ fn end_of(corner: Corner, region: Region) -> i64
 }
 
 /// That of a region's end.
-fn told(watch: Watch, corner: Corner, window: Window, near: Region) -> Told
+fn finding(watch: Watch, corner: Corner, window: Window, near: Region) -> Finding
     requires from { IsWithin most_tick window.from }
     requires to { IsWithin most_tick window.to }
     requires first { IsWithin most_tick near.first }
     requires last { IsWithin most_tick near.last }
     ensures { result
-        ≡ told_by_region (place_in watch.entry.held) watch.entry.direction corner window near }
+        ≡ finding_by_region (place_in watch.entry.held) watch.entry.direction corner window near }
 {
     let tick = end_of(corner, near);
-    Told {
+    Finding {
         slack: Slack::Ticks(spare_at(corner, window, tick)),
         window,
         pin: place_of(watch.held),
@@ -61,15 +61,15 @@ fn told(watch: Watch, corner: Corner, window: Window, near: Region) -> Told
 }
 
 /// The same of a region that there may be, in a period of so many slots.
-fn told_if(watch: Watch, corner: Corner, window: Window, near: Option<Region>) -> Option<Told>
+fn finding_if(watch: Watch, corner: Corner, window: Window, near: Option<Region>) -> Option<Finding>
     requires from { IsWithin most_tick window.from }
     requires to { IsWithin most_tick window.to }
     requires near { IfSome near (λ r. IsWithin most_tick r.first × IsWithin most_tick r.last) }
-    ensures { result ≡ option_map (told_by_region (place_in watch.entry.held)
+    ensures { result ≡ option_map (finding_by_region (place_in watch.entry.held)
         watch.entry.direction corner window) near }
 {
     match near {
-        Some(near) => Some(told(watch, corner, window, near)),
+        Some(near) => Some(finding(watch, corner, window, near)),
         None => None,
     }
 }
@@ -84,16 +84,16 @@ fn by_regions(watch: Watch, window: Window, around: Around) -> Slacks
         (λ r. IsWithin most_tick r.first × IsWithin most_tick r.last) }
     ensures level { result.level ≡ None }
     ensures before { result.before
-        ≡ option_map (told_by_region (place_in watch.entry.held) watch.entry.direction Late
+        ≡ option_map (finding_by_region (place_in watch.entry.held) watch.entry.direction Late
         window) around.last }
     ensures after { result.after
-        ≡ option_map (told_by_region (place_in watch.entry.held) watch.entry.direction Early
+        ≡ option_map (finding_by_region (place_in watch.entry.held) watch.entry.direction Early
         window) around.first }
 {
     Slacks {
         level: None,
-        before: told_if(watch, Corner::Late, window, around.last),
-        after: told_if(watch, Corner::Early, window, around.first),
+        before: finding_if(watch, Corner::Late, window, around.last),
+        after: finding_if(watch, Corner::Early, window, around.first),
     }
 }
 
@@ -253,7 +253,7 @@ fn about<W: CyclicWave<Item = Value>>(
     ensures paths { OnOk result (GoesOn view.now.circuit.now (waves_of view.now.waves.now)
         paths.old.nodes paths.new.nodes paths.new.met.entries) }
     ensures level { IfOk result (λ found. found.level ≡ None) }
-    ensures told { let c = view.now.circuit.now in let p = period c.header in
+    ensures finding { let c = view.now.circuit.now in let p = period c.header in
         let ws = waves_of view.now.waves.now in (ev : Events) →
         AreChanges p ev watch.entry.changes.now → IsPlaced p (window_in p window) → IfOk result
         (TellWindow p ev (launches_of c ws watch.entry.held) (two_of c ws watch.entry.held)
@@ -285,7 +285,7 @@ pub fn about_all<W: CyclicWave<Item = Value>>(
     ensures paths { OnOk result (GoesOn view.now.circuit.now (waves_of view.now.waves.now)
         paths.old.nodes paths.new.nodes paths.new.met.entries) }
     ensures level { IfOk result (λ found. found.level ≡ None) }
-    ensures told { let c = view.now.circuit.now in let p = period c.header in
+    ensures finding { let c = view.now.circuit.now in let p = period c.header in
         let ws = waves_of view.now.waves.now in
         let windows = windows_about p watch.entry.extent watch.entry.edges.now in (ev : Events) →
         AreChanges p ev watch.entry.changes.now → AllByRecursion (IsPlaced p) windows →

@@ -2,7 +2,7 @@
 
 ghost use Rattle.std.specs.Prelude.{◌≡◌, None, Some};
 ghost use Rattle.slack_rows.specs.Slack.{is_above as above, is_broken as breaks, is_less as less};
-ghost use Rattle.slack_rows.specs.Views.{lesser_found, rank_of, slack_by, slack_for, ticks_of, told_none};
+ghost use Rattle.slack_rows.specs.Views.{lesser_found, rank_of, slack_by, slack_for, ticks_of, finding_none};
 
 use crate::parameter::Word;
 use crate::window::{Extent, Window};
@@ -132,7 +132,7 @@ pub enum By {
 
 /// A slack, where it is least.
 #[derive(Clone, Copy)]
-pub struct Told {
+pub struct Finding {
     pub slack: Slack,
     pub window: Window,
     /// The data's pin.
@@ -143,12 +143,12 @@ pub struct Told {
     pub by: By,
 }
 
-impl Told {
+impl Finding {
     /// That there is no number, of steps of a pin in this direction.
-    pub fn none(reason: Reason, pin: u16, direction: Direction) -> Told
-        ensures { result ≡ told_none reason pin direction }
+    pub fn none(reason: Reason, pin: u16, direction: Direction) -> Finding
+        ensures { result ≡ finding_none reason pin direction }
     {
-        Told {
+        Finding {
             slack: Slack::NoNumber(reason),
             window: Window::about(Region { first: 0, last: 0 }, Extent::NONE),
             pin,
@@ -161,7 +161,7 @@ impl Told {
 
 /// The lesser one; of equals the first.
 #[tactic(auto, using(crate::proofs::Ordered::free_is_last, crate::proofs::Ordered::before_free))]
-pub fn lesser(best: Option<Told>, found: Option<Told>) -> Option<Told>
+pub fn lesser(best: Option<Finding>, found: Option<Finding>) -> Option<Finding>
     ensures { result ≡ lesser_found best found }
 {
     match (best, found) {
@@ -181,9 +181,9 @@ pub fn lesser(best: Option<Told>, found: Option<Told>) -> Option<Told>
 /// itself, of what is before and of what is after; of a width those of high and low pulses.
 #[derive(Clone, Copy)]
 pub struct Slacks {
-    pub level: Option<Told>,
-    pub before: Option<Told>,
-    pub after: Option<Told>,
+    pub level: Option<Finding>,
+    pub before: Option<Finding>,
+    pub after: Option<Finding>,
 }
 
 impl Slacks {
@@ -196,11 +196,11 @@ impl Slacks {
 
     /// No number of a mark or an assertion.
     pub fn level(reason: Reason, pin: u16, direction: Direction) -> Slacks
-        ensures { let told = Some (told_none reason pin direction) in
-            result ≡ record { level = told; before = None; after = None } }
+        ensures { let finding = Some (finding_none reason pin direction) in
+            result ≡ record { level = finding; before = None; after = None } }
     {
         Slacks {
-            level: Some(Told::none(reason, pin, direction)),
+            level: Some(Finding::none(reason, pin, direction)),
             before: None,
             after: None,
         }
@@ -208,14 +208,14 @@ impl Slacks {
 
     /// No number before and after.
     pub fn none(reason: Reason, pin: u16, direction: Direction) -> Slacks
-        ensures { let told = Some (told_none reason pin direction) in
-            result ≡ record { level = None; before = told; after = told } }
+        ensures { let finding = Some (finding_none reason pin direction) in
+            result ≡ record { level = None; before = finding; after = finding } }
     {
-        let told = Some(Told::none(reason, pin, direction));
+        let finding = Some(Finding::none(reason, pin, direction));
         Slacks {
             level: None,
-            before: told,
-            after: told,
+            before: finding,
+            after: finding,
         }
     }
 
@@ -233,7 +233,7 @@ impl Slacks {
     }
 
     /// That of a limit.
-    pub fn of(self, word: Word) -> Option<Told>
+    pub fn of(self, word: Word) -> Option<Finding>
         ensures { result ≡ slack_for self word }
     {
         match word {

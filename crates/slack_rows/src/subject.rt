@@ -8,7 +8,7 @@ ghost use Rattle.critical_paths.specs.Known.{Knows};
 ghost use Rattle.critical_paths.specs.Views.{Sees};
 ghost use Rattle.slack_rows.specs.Held.{GoesOn};
 ghost use Rattle.slack_rows.specs.Known.{SlacksKnown, TellLimits};
-ghost use Rattle.slack_rows.specs.Limit.{by_arrivals, instance_by_arrivals, told_in, told_instance};
+ghost use Rattle.slack_rows.specs.Limit.{by_arrivals, instance_by_arrivals, finding_in, finding_instance};
 ghost use Rattle.slack_rows.specs.Rows.{limits_of, limits_of_instance};
 
 use crate::assertion::net_slacks;
@@ -38,10 +38,10 @@ fn instance_slacks<W: CyclicWave<Item = Value>>(
         (length view.now.circuit.now.nets) instance.now }
     ensures paths { OnOk result (GoesOn view.now.circuit.now (waves_of view.now.waves.now)
         paths.old.nodes paths.new.nodes paths.new.met.entries) }
-    ensures told { let c = view.now.circuit.now in let ws = waves_of view.now.waves.now in
+    ensures finding { let c = view.now.circuit.now in let ws = waves_of view.now.waves.now in
         let j = Some instance.now in IfOk result
         (TellLimits (period c.header) (instance_by_arrivals c ws j)
-        (λ word. told_instance c ws word j) (limits_of_instance j)) }
+        (λ word. finding_instance c ws word j) (limits_of_instance j)) }
 {
     if instance.kind.may_be_marked() {
         return match marked_pin(instance) {
@@ -58,7 +58,7 @@ fn instance_slacks<W: CyclicWave<Item = Value>>(
 }
 
 /// The slacks of a subject, of each of its limits.
-#[tactic(auto, unfolding(crate::specs::Limit::told_in, crate::specs::Limit::by_arrivals))]
+#[tactic(auto, unfolding(crate::specs::Limit::finding_in, crate::specs::Limit::by_arrivals))]
 fn slacks_of<W: CyclicWave<Item = Value>>(
     view: &View<W>,
     paths: &mut Paths,
@@ -69,9 +69,9 @@ fn slacks_of<W: CyclicWave<Item = Value>>(
         paths.old.met.entries }
     ensures paths { OnOk result (GoesOn view.now.circuit.now (waves_of view.now.waves.now)
         paths.old.nodes paths.new.nodes paths.new.met.entries) }
-    ensures told { let c = view.now.circuit.now in let ws = waves_of view.now.waves.now in
+    ensures finding { let c = view.now.circuit.now in let ws = waves_of view.now.waves.now in
         IfOk result (TellLimits (period c.header) (by_arrivals c ws subject)
-        (told_in c ws subject) (limits_of c subject)) }
+        (finding_in c ws subject) (limits_of c subject)) }
 {
     match subject {
         Subject::Net(number) => match view.circuit.net(number) {
@@ -110,7 +110,7 @@ pub fn slacks_at<W: CyclicWave<Item = Value>>(
     requires slacks { SlacksKnown view.now.circuit.now (waves_of view.now.waves.now) known slacks }
     ensures paths { OnOk result (GoesOn view.now.circuit.now (waves_of view.now.waves.now)
         paths.old.nodes paths.new.nodes paths.new.met.entries) }
-    ensures told { IfOk result (λ found. SlacksKnown view.now.circuit.now
+    ensures finding { IfOk result (λ found. SlacksKnown view.now.circuit.now
         (waves_of view.now.waves.now) (Some subject) found) }
     ensures same { known ≡ Some subject → IfOk result (λ found. found ≡ slacks) }
 {

@@ -5,15 +5,15 @@ ghost use Rattle.scald_base.specs.Time.{period as period_of};
 ghost use Rattle.flat_circuit.specs.Circuit.{Circuit};
 ghost use Rattle.critical_paths.specs.Tick.{IsWithin, slot_of as slot_in};
 ghost use Rattle.slack_rows.specs.declared.parameter.Parameter.{Parameter};
-ghost use Rattle.slack_rows.specs.Known.{AreKnown, are_sure, breaks, free_by, in_one_case, is_sure, least_at, told_least};
+ghost use Rattle.slack_rows.specs.Known.{AreKnown, are_sure, breaks, free_by, in_one_case, is_sure, least_at, finding_least};
 ghost use Rattle.slack_rows.specs.Limit.{Case};
 ghost use Rattle.slack_rows.specs.Rows.{are_one_region, broken_count as broken_limits, free_count as free_limits, have_no_number as none_of_both, is_own_row, is_same_pin as is_by_one_pin, is_reported as is_reported_before, partner, row, some_broken, reported_once};
-ghost use Rattle.slack_rows.specs.Slack.{Told as Telling, is_broken as breaks_slack};
-ghost use Rattle.slack_rows.specs.Views.{IsNear, Tells, are_close, is_close, region_told, shape_in, slack_by, told_by_found};
+ghost use Rattle.slack_rows.specs.Slack.{Finding as Telling, is_broken as breaks_slack};
+ghost use Rattle.slack_rows.specs.Views.{IsNear, Tells, are_close, is_close, region_finding, shape_in, slack_by, finding_by_found};
 
 use crate::parameter::Word;
 use crate::rows::{Least, Rows};
-use crate::slack::{By, Slack, Told};
+use crate::slack::{By, Finding, Slack};
 use crate::window::Window;
 use critical_paths::Region;
 
@@ -28,7 +28,7 @@ pub struct Shape {
 }
 
 /// Whether neither has a number.
-fn have_no_number(before: Told, after: Told) -> bool
+fn have_no_number(before: Finding, after: Finding) -> bool
     ensures { result ≡ none_of_both (slack_by before.slack) (slack_by after.slack) }
 {
     match (before.slack, after.slack) {
@@ -38,15 +38,15 @@ fn have_no_number(before: Told, after: Told) -> bool
 }
 
 /// Whether both are of the same steps of one pin.
-fn is_same_pin(before: Told, after: Told) -> bool
-    ensures { (p : ℕ) → result ≡ is_by_one_pin (told_by_found p before) (told_by_found p after) }
+fn is_same_pin(before: Finding, after: Finding) -> bool
+    ensures { (p : ℕ) → result ≡ is_by_one_pin (finding_by_found p before) (finding_by_found p after) }
 {
     before.pin == after.pin && before.direction == after.direction
 }
 
 /// The region of changes that a slack comes from, if it comes from one.
 fn region_of(by: By) -> Option<Region>
-    ensures { result ≡ region_told by }
+    ensures { result ≡ region_finding by }
 {
     match by {
         By::Region(region) => Some(region),
@@ -120,11 +120,11 @@ fn are_same(one: Shape, other: Shape) -> bool
 
 /// Whether one region of changes breaks a limit before a window and one after that or a later
 /// window, whichever the periods: it would do earlier or later.
-fn have_one_region(period: u16, before: Told, after: Told) -> bool
+fn have_one_region(period: u16, before: Finding, after: Finding) -> bool
     requires { 0 < period }
     ensures { IsNear period before before.by → IsNear period after after.by → result ≡
-        are_one_region period (told_by_found period before).place
-        (told_by_found period after).place }
+        are_one_region period (finding_by_found period before).place
+        (finding_by_found period after).place }
 {
     let Some(one) = region_of(before.by) else {
         return false;
@@ -149,7 +149,7 @@ fn have_one_region(period: u16, before: Told, after: Told) -> bool
 }
 
 /// Whether both limits are broken.
-fn are_broken(before: Told, after: Told) -> bool
+fn are_broken(before: Finding, after: Finding) -> bool
     ensures { result
         ≡ (breaks_slack (slack_by before.slack) && breaks_slack (slack_by after.slack)) }
 {
@@ -157,24 +157,24 @@ fn are_broken(before: Told, after: Told) -> bool
 }
 
 /// Whether both come from one region of changes of one pin.
-fn have_one_cause(period: u16, before: Told, after: Told) -> bool
+fn have_one_cause(period: u16, before: Finding, after: Finding) -> bool
     requires { 0 < period }
     ensures { IsNear period before before.by → IsNear period after after.by → result ≡
-        (is_by_one_pin (told_by_found period before) (told_by_found period after)
-        && are_one_region period (told_by_found period before).place
-        (told_by_found period after).place) }
+        (is_by_one_pin (finding_by_found period before) (finding_by_found period after)
+        && are_one_region period (finding_by_found period before).place
+        (finding_by_found period after).place) }
 {
     is_same_pin(before, after) && have_one_region(period, before, after)
 }
 
 /// Whether two slacks, which may be of one case, are one row: neither has a number, or one region
 /// breaks both limits.
-fn are_reported_once(period: u16, is_one_case: bool, before: Told, after: Told) -> bool
+fn are_reported_once(period: u16, is_one_case: bool, before: Finding, after: Finding) -> bool
     requires { 0 < period }
     ensures broken { result ≡ true → breaks_slack (slack_by before.slack) ≡ true }
-    ensures told { IsNear period before before.by → IsNear period after after.by → result ≡
-        reported_once period is_one_case (told_by_found period before)
-        (told_by_found period after) }
+    ensures finding { IsNear period before before.by → IsNear period after after.by → result ≡
+        reported_once period is_one_case (finding_by_found period before)
+        (finding_by_found period after) }
 {
     if have_no_number(before, after) {
         return true;
@@ -189,8 +189,8 @@ fn are_reported_once(period: u16, is_one_case: bool, before: Told, after: Told) 
 fn is_reported_with(period: u16, before: Option<Least>, after: Option<Least>) -> bool
     requires { 0 < period }
     ensures broken { result ≡ true → breaks before ≡ true }
-    ensures told { (a b : Telling) → Tells period (told_least before) a →
-        Tells period (told_least after) b →
+    ensures finding { (a b : Telling) → Tells period (finding_least before) a →
+        Tells period (finding_least after) b →
         result ≡ reported_once period (in_one_case before after) a b }
 {
     let Some(before) = before else {
@@ -199,7 +199,12 @@ fn is_reported_with(period: u16, before: Option<Least>, after: Option<Least>) ->
     let Some(after) = after else {
         return false;
     };
-    are_reported_once(period, before.case == after.case, before.told, after.told)
+    are_reported_once(
+        period,
+        before.case == after.case,
+        before.finding,
+        after.finding,
+    )
 }
 
 /// Whether a limit is broken.
@@ -207,7 +212,7 @@ fn is_broken(least: Option<Least>) -> bool
     ensures { result ≡ breaks least }
 {
     match least {
-        Some(least) => least.told.slack.is_broken(),
+        Some(least) => least.finding.slack.is_broken(),
         None => false,
     }
 }
@@ -229,7 +234,7 @@ impl Rows {
     pub fn is_reported(&self, place: usize) -> bool
         requires { place < length self.now.parameters }
         ensures broken { result ≡ true → breaks (least_at self.now.least place 1) ≡ true }
-        ensures told { (c : Circuit) (cases : List Case) (q : Parameter) →
+        ensures finding { (c : Circuit) (cases : List Case) (q : Parameter) →
             AreKnown c cases self.now.parameters self.now.least self.now.cases self.now.sets.keys →
             self.now.period ≡ period_of c.header →
             slice_get self.now.parameters place ≡ Some q → is_sure c cases q.subject ≡ true →

@@ -11,8 +11,8 @@ ghost use Rattle.critical_paths.specs.Tick.{IsWithin, most_tick};
 ghost use Rattle.critical_paths.specs.Known.{Knows};
 ghost use Rattle.critical_paths.specs.Reached.{StaysKnown, arrivals_in};
 ghost use Rattle.critical_paths.specs.Views.{Sees};
-ghost use Rattle.slack_rows.specs.Arrived.{AreWorkedOut, TwoWorkedOut, both_of, counts_launch, furthest_in as furthest_among, further_of, launch_at, moved_into, place_on, range_on, slacks_by_two, tick_of, told_by_arrival, two_slacks};
-ghost use Rattle.slack_rows.specs.Held.{GoesOn, IsBrokenByTwo, IsClose, IsCloseWindow, IsHeld, edge_at_pin, edge_held, step_held, told_back};
+ghost use Rattle.slack_rows.specs.Arrived.{AreWorkedOut, TwoWorkedOut, both_of, counts_launch, furthest_in as furthest_among, further_of, launch_at, moved_into, place_on, range_on, slacks_by_two, tick_of, finding_by_arrival, two_slacks};
+ghost use Rattle.slack_rows.specs.Held.{GoesOn, IsBrokenByTwo, IsClose, IsCloseWindow, IsHeld, edge_at_pin, edge_held, step_held, finding_back};
 ghost use Rattle.slack_rows.specs.Views.{ahead_of, spare_at};
 
 use crate::around::Around;
@@ -249,7 +249,7 @@ pub fn edge_of<W: CyclicWave<Item = Value>>(
         paths.old.nodes paths.new.nodes paths.new.met.entries) }
     ensures edge { let c = view.now.circuit.now in let p = period c.header in
         let step = step_held held window corner in IfOk result (λ found. found
-        ≡ option_map (told_back (3 * p)) (edge_at_pin c (waves_of view.now.waves.now) step.corner
+        ≡ option_map (finding_back (3 * p)) (edge_at_pin c (waves_of view.now.waves.now) step.corner
         step.pin step.direction (ahead_of p step.tick))) }
 {
     let found = step_path(view, paths, held.edge(window, corner))?;
@@ -266,9 +266,9 @@ fn broken_by(held: Held, window: Window, late: Arrival, early: Arrival) -> Optio
     requires late { IsWithin most_tick late.tick }
     requires early { IsWithin most_tick early.tick }
     ensures level { IfSome result (λ found. found.level ≡ None) }
-    ensures before { IfSome result (λ found. found.before ≡ Some (told_by_arrival held
+    ensures before { IfSome result (λ found. found.before ≡ Some (finding_by_arrival held
         (Slack.Ticks (spare_at Late window late.tick)) window late)) }
-    ensures after { IfSome result (λ found. found.after ≡ Some (told_by_arrival held
+    ensures after { IfSome result (λ found. found.after ≡ Some (finding_by_arrival held
         (Slack.Ticks (spare_at Early window early.tick)) window early)) }
     ensures broken { IfSome result IsBrokenByTwo }
     ensures is { result ≡ slacks_by_two held window late early }
@@ -280,8 +280,8 @@ fn broken_by(held: Held, window: Window, late: Arrival, early: Arrival) -> Optio
     }
     Some(Slacks {
         level: None,
-        before: Some(held.told(Slack::Ticks(before), window, late)),
-        after: Some(held.told(Slack::Ticks(after), window, early)),
+        before: Some(held.finding(Slack::Ticks(before), window, late)),
+        after: Some(held.finding(Slack::Ticks(after), window, early)),
     })
 }
 

@@ -80,13 +80,13 @@ pub fn still_slacks<W: CyclicWave<Item = Value>>(
     requires still { IsSlots (period view.now.circuit.now.header) still.now }
     ensures paths { OnOk result (GoesOn view.now.circuit.now (waves_of view.now.waves.now)
         paths.old.nodes paths.new.nodes paths.new.met.entries) }
-    ensures told { let c = view.now.circuit.now in let p = period c.header in
+    ensures finding { let c = view.now.circuit.now in let p = period c.header in
         let ws = waves_of view.now.waves.now in (ev quiet : Events) →
         IsCyclic p ev → IsCyclic p quiet → AreSlots p ev changes.now → AreSlots p quiet still.now →
         IfOk result (TellParts p (launches_of c ws held) (two_of c ws held) (place_in held)
         direction (watch_at p ev quiet)) }
     ensures without { IfSome (without_windows held direction changes.now still.now)
-        (λ found. IfOk result (λ told. told ≡ found)) }
+        (λ found. IfOk result (λ finding. finding ≡ found)) }
 {
     // no period is short
     let _period = view.period();

@@ -10,7 +10,7 @@ ghost use Rattle.critical_paths.specs.Known.{Knows};
 ghost use Rattle.critical_paths.specs.Reached.{arrivals_in};
 ghost use Rattle.critical_paths.specs.Views.{Sees};
 ghost use Rattle.slack_rows.specs.declared.guard.Guard.{Guard};
-ghost use Rattle.slack_rows.specs.Arrived.{GuardsWorkedOut, IsGuardOf, MayAdd, behind_wire, is_nearer, moved, told_side, told_way, with_arrival as with_each, with_guard, with_way};
+ghost use Rattle.slack_rows.specs.Arrived.{GuardsWorkedOut, IsGuardOf, MayAdd, behind_wire, is_nearer, moved, finding_side, finding_way, with_arrival as with_each, with_guard, with_way};
 ghost use Rattle.slack_rows.specs.Held.{AreOfWays, GoesOn, IsHeld, IsInPeriod};
 ghost use Rattle.slack_rows.specs.Views.{is_starred, slack_by};
 
@@ -18,7 +18,7 @@ use crate::guard::{Guard, Guards};
 use crate::held::{Held, Watch};
 use crate::nearest::Launch;
 use crate::sides::window_of;
-use crate::slack::{Reason, Slack, Slacks, Told, lesser};
+use crate::slack::{Finding, Reason, Slack, Slacks, lesser};
 use crate::two::{at_pin, edge_of, range, work_out};
 use crate::window::{Window, spare_at};
 use critical_paths::{Arrival, Corner, Direction, Paths, View};
@@ -29,7 +29,7 @@ use wave_core::CyclicWave;
 /// The least slack so far, and why there is none.
 #[derive(Clone, Copy)]
 struct Least {
-    best: Option<Told>,
+    best: Option<Finding>,
     reason: Reason,
 }
 
@@ -124,16 +124,16 @@ fn sooner(arrival: Arrival, ticks: i64) -> Arrival
 }
 
 /// The slack of an arrival at the data's pin against the edge that its launch is for.
-fn way(sought: Sought, launch: Launch, arrival: Arrival) -> Told
+fn way(sought: Sought, launch: Launch, arrival: Arrival) -> Finding
     requires tick { IsWithin (2 ^ 46 + 65536) arrival.tick }
     requires corner { launch.corner ≡ sought.corner }
-    ensures is { result ≡ told_way launch.period sought launch.tick arrival }
+    ensures is { result ≡ finding_way launch.period sought launch.tick arrival }
     ensures starred { is_starred (slack_by result.slack) ≡ true }
 {
     let Sought { held, edge, corner } = sought;
     let found = sooner(arrival, edge.moved(launch));
     let ticks = spare_at(corner, edge.window, found.tick);
-    held.told(Slack::Way(ticks), edge.window, found)
+    held.finding(Slack::Way(ticks), edge.window, found)
 }
 
 /// With the slack of an arrival against an edge, if that is the one that its launch is for.
@@ -142,18 +142,18 @@ fn with_arrival<W: CyclicWave<Item = Value>>(
     edges: &[Guard],
     sought: Sought,
     arrival: Arrival,
-    best: Option<Told>,
-) -> Option<Told>
+    best: Option<Finding>,
+) -> Option<Finding>
     requires sees { Sees view.now.circuit.now view.now.waves.now view.now.hazards.now }
     requires ideal { IsWithin (2 ^ 46) arrival.ideal }
     requires tick { IsWithin (2 ^ 46) arrival.tick }
-    requires best { IfSome best (λ told. is_starred (slack_by told.slack) ≡ true) }
+    requires best { IfSome best (λ finding. is_starred (slack_by finding.slack) ≡ true) }
     ensures is { let c = view.now.circuit.now in let p = period_of c.header in
         let corner = sought.corner in result ≡ with_way
         (not (list_any (is_nearer corner p arrival.ideal sought.edge) edges.now)) best
-        (told_way p sought arrival.ideal
+        (finding_way p sought arrival.ideal
         (behind_wire (bound corner (target_wire c.nets sought.held.pin.target)) arrival)) }
-    ensures starred { IfSome result (λ told. is_starred (slack_by told.slack) ≡ true) }
+    ensures starred { IfSome result (λ finding. is_starred (slack_by finding.slack) ≡ true) }
 {
     let Sought { held, edge, corner } = sought;
     let found = at_pin(view, held, arrival, corner);
@@ -176,16 +176,16 @@ fn best_of<W: CyclicWave<Item = Value>>(
     edges: &[Guard],
     sought: Sought,
     numbers: (usize, usize),
-    so_far: Option<Told>,
-) -> Option<Told>
+    so_far: Option<Finding>,
+) -> Option<Finding>
     requires sees { Sees view.now.circuit.now view.now.waves.now view.now.hazards.now }
     requires ordered { numbers.0 ≤ numbers.1 }
     requires numbers { numbers.1 ≤ length paths.now.arrivals }
-    requires best { IfSome so_far (λ told. is_starred (slack_by told.slack) ≡ true) }
+    requires best { IfSome so_far (λ finding. is_starred (slack_by finding.slack) ≡ true) }
     ensures is { let c = view.now.circuit.now in result ≡ fold (with_each (period_of c.header)
         (bound sought.corner (target_wire c.nets sought.held.pin.target)) edges.now sought)
         so_far (arrivals_in paths.now.arrivals numbers) }
-    ensures starred { IfSome result (λ told. is_starred (slack_by told.slack) ≡ true) }
+    ensures starred { IfSome result (λ finding. is_starred (slack_by finding.slack) ≡ true) }
 {
     let (from, to) = numbers;
     let mut best = so_far;
@@ -205,10 +205,10 @@ fn with_edge<W: CyclicWave<Item = Value>>(
     so_far: Least,
 ) -> Least
     requires sees { Sees view.now.circuit.now view.now.waves.now view.now.hazards.now }
-    requires best { IfSome so_far.best (λ told. is_starred (slack_by told.slack) ≡ true) }
+    requires best { IfSome so_far.best (λ finding. is_starred (slack_by finding.slack) ≡ true) }
     ensures is { result ≡ with_guard view.now.circuit.now paths.now.known.entries
         paths.now.arrivals edges.now sought.held sought.corner so_far sought.edge }
-    ensures best { IfSome result.best (λ told. is_starred (slack_by told.slack) ≡ true) }
+    ensures best { IfSome result.best (λ finding. is_starred (slack_by finding.slack) ≡ true) }
 {
     let Sought { held, edge, corner } = sought;
     let Some(numbers) = range(paths, held, edge.net, corner) else {
@@ -223,15 +223,15 @@ fn with_edge<W: CyclicWave<Item = Value>>(
 
 /// The least slack of one side over the edges of some windows, by the arrivals that are known; a
 /// reason if there is none.
-fn least_told<W: CyclicWave<Item = Value>>(
+fn least_finding<W: CyclicWave<Item = Value>>(
     view: &View<W>,
     paths: &Paths,
     edges: &[Guard],
     held: Held,
     corner: Corner,
-) -> Told
+) -> Finding
     requires sees { Sees view.now.circuit.now view.now.waves.now view.now.hazards.now }
-    ensures is { result ≡ told_side view.now.circuit.now paths.now.known.entries
+    ensures is { result ≡ finding_side view.now.circuit.now paths.now.known.entries
         paths.now.arrivals held corner edges.now }
     ensures starred { is_starred (slack_by result.slack) ≡ true }
 {
@@ -248,8 +248,8 @@ fn least_told<W: CyclicWave<Item = Value>>(
         least = with_edge(view, paths, edges, sought, least);
     }
     match least.best {
-        Some(told) => told,
-        None => Told::none(least.reason, held.place, Direction::Change),
+        Some(finding) => finding,
+        None => Finding::none(least.reason, held.place, Direction::Change),
     }
 }
 
@@ -291,7 +291,7 @@ fn side<W: CyclicWave<Item = Value>>(
     watch: Watch,
     held: Held,
     corner: Corner,
-) -> Result<Told, NoMemory>
+) -> Result<Finding, NoMemory>
     requires sees { Sees view.now.circuit.now view.now.waves.now view.now.hazards.now }
     requires knows { Knows view.now.circuit.now (waves_of view.now.waves.now) paths.old.nodes
         paths.old.met.entries }
@@ -300,14 +300,14 @@ fn side<W: CyclicWave<Item = Value>>(
     requires extent { watch.extent.before ≤ period_of view.now.circuit.now.header }
     ensures paths { OnOk result (GoesOn view.now.circuit.now (waves_of view.now.waves.now)
         paths.old.nodes paths.new.nodes paths.new.met.entries) }
-    ensures is { let c = view.now.circuit.now in IfOk result (λ told. (guards : List Guard) ×
+    ensures is { let c = view.now.circuit.now in IfOk result (λ finding. (guards : List Guard) ×
         (GuardsWorkedOut paths.new.known.entries held corner guards
-        × (told ≡ told_side c paths.new.known.entries paths.new.arrivals held corner guards))) }
-    ensures starred { IfOk result (λ told. is_starred (slack_by told.slack) ≡ true) }
+        × (finding ≡ finding_side c paths.new.known.entries paths.new.arrivals held corner guards))) }
+    ensures starred { IfOk result (λ finding. is_starred (slack_by finding.slack) ≡ true) }
 {
     let edges = edges(view, paths, watch, held, corner)?;
     work_out_all(view, paths, edges.as_slice(), held, corner)?;
-    Ok(least_told(view, paths, edges.as_slice(), held, corner))
+    Ok(least_finding(view, paths, edges.as_slice(), held, corner))
 }
 
 /// The least slacks before windows and after them of data that may change in every slot.

@@ -14,12 +14,12 @@ ghost use Rattle.element_kinds.specs.Kinds.{checks_pulses, may_split};
 ghost use Rattle.flat_circuit.specs.Limits.{high_of, low_of};
 ghost use Rattle.critical_paths.specs.Tick.{IsWithin, most_tick};
 ghost use Rattle.critical_paths.specs.Views.{Sees};
-ghost use Rattle.slack_rows.specs.Limit.{begin_of, told_level};
-ghost use Rattle.slack_rows.specs.Pulse.{begins_by, begins_if, begins_in, changes_again, latest_begin, left_at, left_by, left_if, left_in, left_of as left_after, may_change_again, narrowest as narrowest_of, told_wave};
-ghost use Rattle.slack_rows.specs.Slack.{told_of};
+ghost use Rattle.slack_rows.specs.Limit.{begin_of, finding_level};
+ghost use Rattle.slack_rows.specs.Pulse.{begins_by, begins_if, begins_in, changes_again, latest_begin, left_at, left_by, left_if, left_in, left_of as left_after, may_change_again, narrowest as narrowest_of, finding_wave};
+ghost use Rattle.slack_rows.specs.Slack.{finding_of};
 ghost use Rattle.slack_rows.specs.Views.{Tells, comes_again};
 
-use crate::slack::{By, Slack, Slacks, Told};
+use crate::slack::{By, Finding, Slack, Slacks};
 use crate::window::Window;
 use critical_paths::{Direction, View};
 use fixpoint_engine::{pin_wave, waves_at_pins, wire_behind};
@@ -66,7 +66,7 @@ fn is_repeated<W: CyclicWave<Item = Value>>(wave: &W, pulse: (u16, u16)) -> bool
 }
 
 /// A width against its limit, of a pulse that begins at the pin in a slot; the window is the pulse.
-fn told(level: bool, limit: u16, slot: u16, window: Window, by: By) -> Told
+fn finding(level: bool, limit: u16, slot: u16, window: Window, by: By) -> Finding
     requires first { IsWithin most_tick window.first }
     requires last { IsWithin most_tick window.last }
     ensures slack { result.slack ≡ Slack.Ticks (window.last -ℤ window.first -ℤ pos limit) }
@@ -76,7 +76,7 @@ fn told(level: bool, limit: u16, slot: u16, window: Window, by: By) -> Told
     ensures tick { result.tick ≡ pos slot }
     ensures way { result.by ≡ by }
 {
-    Told {
+    Finding {
         slack: Slack::Ticks(window.last - window.first - i64::from(limit)),
         window,
         pin: 0,
@@ -291,17 +291,17 @@ fn width<W: CyclicWave<Item = Value>>(
     pin: Pin,
     level: bool,
     limit: u16,
-) -> Result<Option<Told>, NoMemory>
+) -> Result<Option<Finding>, NoMemory>
     requires sees { Sees view.now.circuit.now view.now.waves.now view.now.hazards.now }
     requires pin { PinExists (length view.now.circuit.now.nets) pin }
-    ensures told { let c = view.now.circuit.now in let ws = waves_of view.now.waves.now in
+    ensures finding { let c = view.now.circuit.now in let ws = waves_of view.now.waves.now in
         let wave = read (wave_shown c ws pin).cells in
-        IfOk result (λ found. Tells (period c.header) found (told_of 0 (begin_of level)
-        (told_wave limit (left_at c ws level pin) wave
+        IfOk result (λ found. Tells (period c.header) found (finding_of 0 (begin_of level)
+        (finding_wave limit (left_at c ws level pin) wave
         (narrowest_of (period c.header) level wave)))) }
     ensures again { let c = view.now.circuit.now in let ws = waves_of view.now.waves.now in
         let wave = read (wave_shown c ws pin).cells in
-        IfOk result (λ found. IfSome found (λ told. comes_again told.by
+        IfOk result (λ found. IfSome found (λ finding. comes_again finding.by
         ≡ changes_again wave (narrowest_of (period c.header) level wave))) }
 {
     let wave = pin_wave(view.alloc, view.circuit, view.waves, pin)?;
@@ -311,21 +311,21 @@ fn width<W: CyclicWave<Item = Value>>(
     };
     let window = ticks(i64::from(pulse.0), i64::from(pulse.1));
     if is_repeated(shown, pulse) {
-        let repeated = told(level, limit, pulse.0, window, By::Repeated);
+        let repeated = finding(level, limit, pulse.0, window, By::Repeated);
         return Ok(Some(repeated));
     }
     if !may_vanish(pulse.1, limit) {
-        let wide = told(level, limit, pulse.0, window, By::Pulse);
+        let wide = finding(level, limit, pulse.0, window, By::Pulse);
         return Ok(Some(wide));
     }
     match swallowed(view, pin, level)? {
         None => {
-            let kept = told(level, limit, pulse.0, window, By::Pulse);
+            let kept = finding(level, limit, pulse.0, window, By::Pulse);
             Ok(Some(kept))
         }
         Some((begin, left)) => {
             let rest = ticks(begin, left);
-            let gone = told(level, limit, pulse.0, rest, By::Swallowed);
+            let gone = finding(level, limit, pulse.0, rest, By::Swallowed);
             Ok(Some(gone))
         }
     }
@@ -351,8 +351,8 @@ pub fn width_slacks<W: CyclicWave<Item = Value>>(
     ensures { let c = view.now.circuit.now in let ws = waves_of view.now.waves.now in
         let j = checker.now in let first = slice_get j.pins 0 in
         IfOk result (λ found.
-        (Tells (period c.header) found.before (told_level c ws j true (high_of j.limits) first))
-        × (Tells (period c.header) found.after (told_level c ws j false (low_of j.limits) first))) }
+        (Tells (period c.header) found.before (finding_level c ws j true (high_of j.limits) first))
+        × (Tells (period c.header) found.after (finding_level c ws j false (low_of j.limits) first))) }
 {
     let pin = first_pin(checker);
     Ok(Slacks {

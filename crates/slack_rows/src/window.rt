@@ -9,7 +9,7 @@ ghost use Rattle.critical_paths.specs.declared.direction.Direction.TheVariants.{
 ghost use Rattle.critical_paths.specs.Event.{events};
 ghost use Rattle.critical_paths.specs.Region.{some_event};
 ghost use Rattle.critical_paths.specs.Views.{ticks_of_region};
-ghost use Rattle.slack_rows.specs.Watch.{fall_of, follows as follows_before, may_stay_high, span_told, spans};
+ghost use Rattle.slack_rows.specs.Watch.{fall_of, follows as follows_before, may_stay_high, span_finding, spans};
 ghost use Rattle.slack_rows.specs.Views.{spare_at, window_about};
 
 use critical_paths::{Corner, Region, Regions};
@@ -136,7 +136,7 @@ fn follows(before: Option<u16>, high: u16) -> bool
 /// there.
 fn span_from(slot: u16, before: Option<u16>, high: Option<u16>) -> Option<Region>
     requires { IfSome high (λ ticks. ticks ≤ 4096) }
-    ensures { result ≡ option_map ticks_of_region (span_told slot before high) }
+    ensures { result ≡ option_map ticks_of_region (span_finding slot before high) }
 {
     let high = high?;
     if follows(before, high) {

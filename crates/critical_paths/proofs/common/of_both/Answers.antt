@@ -16,12 +16,12 @@ loop-place-preserved c =
     let own = c.args.own.now in
     let other = c.args.other.now in
     let place = c.loop-place.place in
-    let told = c.is_twice.result in
+    let noted = c.is_twice.result in
     let none : Counted = record { part = Delay 0; amount = 0 } in
     let at = slice_get-get_or own place none c.loop-place-test.true in
     twice_more other own place c.loop-place.twice c.add_if.new.out (of_both own other)
-    (get_or own place none) told at
-    (subst (λ (o : Option Counted). IfSome o (λ x. told ≡ is_twice (take place own) other x)) at
+    (get_or own place none) noted at
+    (subst (λ (o : Option Counted). IfSome o (λ x. noted ≡ is_twice (take place own) other x)) at
     c.is_twice.ensures)
     c.in_ok-add_if.ensures c.loop-place.invariant
 

@@ -1,7 +1,7 @@
 use Rattle.std.proofs.Common.{◌+◌, ◌++◌, List, Some, drop, ap, ◌∙◌}
 use Rattle.critical_paths.specs.declared.common.Counted.{Counted}
 use Rattle.critical_paths.specs.Known.{end_of}
-use Rattle.critical_paths.proofs.Counting.{parts_done, parts_from, parts_more, parts_told}
+use Rattle.critical_paths.proofs.Counting.{parts_done, parts_from, parts_more, parts_noted}
 use Rattle.critical_paths.proofs.common.parts.Goals as goal
 
 pub loop-place-preserved : goal.loop-place-preserved
@@ -24,4 +24,4 @@ returns c =
     ap Some (parts_done circuit end way c.loop-place.place c.loop-place.out
     (parts_from circuit end way) c.loop-place-test.false c.loop-place.invariant
     ∙ ap (parts_from circuit end) (c.as_slice-nodes.ensures ∙ c.in_ok-way.ensures))
-    ∙ parts_told circuit c.args.paths.now.nodes c.args.number c.node-end.result c.node-end.ensures
+    ∙ parts_noted circuit c.args.paths.now.nodes c.args.number c.node-end.result c.node-end.ensures

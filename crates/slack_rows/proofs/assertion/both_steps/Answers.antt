@@ -4,8 +4,8 @@ use Rattle.critical_paths.specs.declared.direction.Direction.TheVariants.{Rise, 
 use Rattle.slack_rows.proofs.Marking.{two_directions}
 use Rattle.slack_rows.proofs.assertion.both_steps.Goals as goal
 
-pub returns-clause-told : goal.returns-clause-told
-returns-clause-told g c =
+pub returns-clause-finding : goal.returns-clause-finding
+returns-clause-finding g c =
     two_directions (period c.args.view.now.circuit.now.header) (read (g.W.CyclicWave.cells c.args.fold.now))
     (read (g.W.CyclicWave.cells c.args.wide.now)) Rise Fall c.in_ok-rises.rises c.in_ok-falls.falls c.lesser.result
-    c.in_ok-rises.ensures.told c.in_ok-falls.ensures.told c.lesser.ensures.level c.lesser.ensures.before c.lesser.ensures.after
+    c.in_ok-rises.ensures.finding c.in_ok-falls.ensures.finding c.lesser.ensures.level c.lesser.ensures.before c.lesser.ensures.after

@@ -14,7 +14,7 @@ use Rattle.critical_paths.specs.Region.{IsCyclic}
 use Rattle.slack_rows.specs.declared.slack.Slacks.{Slacks}
 use Rattle.slack_rows.specs.Held.{AreSlots, TellWatch, launches_of, two_of}
 use Rattle.slack_rows.specs.Limit.{edge_limits, is_by_arrivals, least_still, pin_folds, still_after, still_before}
-use Rattle.slack_rows.specs.Slack.{told_of}
+use Rattle.slack_rows.specs.Slack.{finding_of}
 use Rattle.slack_rows.specs.Views.{Tells}
 use Rattle.slack_rows.specs.Watch.{rise_watch, span_watch}
 use Rattle.slack_rows.proofs.Checkers.{folds_repeat}
@@ -86,8 +86,8 @@ quiet_slacks-requires g c =
     ∙ sym (length_folded (pin_wave circuit ws clock) (g.W.CyclicWave.cells c.in_ok-clock.clock) c.in_ok-clock.ensures
     ∙ long_pin circuit ws clock c.requires.sees.fit.each_slot (exists_at (length circuit.nets) pins 0 clock reads c.held_by-held.ensures.clock))
 
-pub returns-then-are_none-clause-told : goal.returns-then-are_none-clause-told
-returns-then-are_none-clause-told g c =
+pub returns-then-are_none-clause-finding : goal.returns-then-are_none-clause-finding
+returns-then-are_none-clause-finding g c =
     let circuit = c.args.view.now.circuit.now in
     let ws = waves_of c.args.view.now.waves.now in
     let j = c.args.checker.now in
@@ -113,8 +113,8 @@ returns-then-are_none-clause-told g c =
     (event_none p (events Change (pin_folds circuit ws j 1)) c.in_ok-changes.changes cyclic long are
     (sym c.are_none.ensures ∙ c.if-are_none.true)))
 
-pub returns-then-is_to_fall-clause-told : goal.returns-then-is_to_fall-clause-told
-returns-then-is_to_fall-clause-told g c =
+pub returns-then-is_to_fall-clause-finding : goal.returns-then-is_to_fall-clause-finding
+returns-then-is_to_fall-clause-finding g c =
     let circuit = c.args.view.now.circuit.now in
     let ws = waves_of c.args.view.now.waves.now in
     let j = c.args.checker.now in
@@ -150,10 +150,10 @@ returns-then-is_to_fall-clause-told g c =
     (subst (λ (f : Folds). IfOk c.span_slacks.result (TellWatch p (launches_of circuit ws (Some held))
     (is_by_arrivals p (two_of circuit ws (Some held)) (span_watch p (edge_limits j.limits) f (pin_folds circuit ws j 1))) held.place Change
     (span_watch p (edge_limits j.limits) f (pin_folds circuit ws j 1)))) clock_is
-    (c.span_slacks.ensures.told (pin_folds circuit ws j 1) cyclic some are))
+    (c.span_slacks.ensures.finding (pin_folds circuit ws j 1) cyclic some are))
 
-pub returns-then-asks_nothing-clause-told : goal.returns-then-asks_nothing-clause-told
-returns-then-asks_nothing-clause-told g c =
+pub returns-then-asks_nothing-clause-finding : goal.returns-then-asks_nothing-clause-finding
+returns-then-asks_nothing-clause-finding g c =
     let circuit = c.args.view.now.circuit.now in
     let ws = waves_of c.args.view.now.waves.now in
     let j = c.args.checker.now in
@@ -179,21 +179,21 @@ returns-then-asks_nothing-clause-told g c =
     let count = length_folded v clocks c.in_ok-clock.ensures ∙ same_clock in
     quiet_check circuit ws j c.args.check c.quiet_slacks.result (c.is_to_fall.ensures.rise c.if-is_to_fall.false c.requires.edges)
     (sym c.asks_nothing.ensures ∙ c.if-asks_nothing.true)
-    (subst (λ (n : ℕ). Tells n c.quiet_slacks.result.before (told_of 1 Change (least_still (still_before n (events Change (pin_folds circuit ws j 1))) n
+    (subst (λ (n : ℕ). Tells n c.quiet_slacks.result.before (finding_of 1 Change (least_still (still_before n (events Change (pin_folds circuit ws j 1))) n
     (events Rise (pin_folds circuit ws j 0))))) count
-    (subst (λ (f : Folds). Tells (length clocks) c.quiet_slacks.result.before (told_of 1 Change (least_still
+    (subst (λ (f : Folds). Tells (length clocks) c.quiet_slacks.result.before (finding_of 1 Change (least_still
     (still_before (length clocks) (events Change (pin_folds circuit ws j 1))) (length clocks) (events Rise f)))) clock_is
-    (subst (λ (f : Folds). Tells (length clocks) c.quiet_slacks.result.before (told_of 1 Change (least_still
+    (subst (λ (f : Folds). Tells (length clocks) c.quiet_slacks.result.before (finding_of 1 Change (least_still
     (still_before (length clocks) (events Change f)) (length clocks) (events Rise (read clocks))))) data_is c.quiet_slacks.ensures.before)))
-    (subst (λ (n : ℕ). Tells n c.quiet_slacks.result.after (told_of 1 Change (least_still (still_after n (events Change (pin_folds circuit ws j 1))) n
+    (subst (λ (n : ℕ). Tells n c.quiet_slacks.result.after (finding_of 1 Change (least_still (still_after n (events Change (pin_folds circuit ws j 1))) n
     (events Rise (pin_folds circuit ws j 0))))) count
-    (subst (λ (f : Folds). Tells (length clocks) c.quiet_slacks.result.after (told_of 1 Change (least_still
+    (subst (λ (f : Folds). Tells (length clocks) c.quiet_slacks.result.after (finding_of 1 Change (least_still
     (still_after (length clocks) (events Change (pin_folds circuit ws j 1))) (length clocks) (events Rise f)))) clock_is
-    (subst (λ (f : Folds). Tells (length clocks) c.quiet_slacks.result.after (told_of 1 Change (least_still
+    (subst (λ (f : Folds). Tells (length clocks) c.quiet_slacks.result.after (finding_of 1 Change (least_still
     (still_after (length clocks) (events Change f)) (length clocks) (events Rise (read clocks))))) data_is c.quiet_slacks.ensures.after)))
 
-pub returns-clause-told : goal.returns-clause-told
-returns-clause-told g c =
+pub returns-clause-finding : goal.returns-clause-finding
+returns-clause-finding g c =
     let circuit = c.args.view.now.circuit.now in
     let ws = waves_of c.args.view.now.waves.now in
     let j = c.args.checker.now in
@@ -230,4 +230,4 @@ returns-clause-told g c =
     (subst (λ (f : Folds). IfOk c.rise_slacks.result (TellWatch p (launches_of circuit ws (Some held))
     (is_by_arrivals p (two_of circuit ws (Some held)) (rise_watch p (edge_limits j.limits) f (pin_folds circuit ws j 1))) held.place Change
     (rise_watch p (edge_limits j.limits) f (pin_folds circuit ws j 1)))) clock_is
-    (c.rise_slacks.ensures.told (pin_folds circuit ws j 1) cyclic some are))
+    (c.rise_slacks.ensures.finding (pin_folds circuit ws j 1) cyclic some are))

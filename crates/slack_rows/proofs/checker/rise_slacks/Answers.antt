@@ -14,15 +14,15 @@ use Rattle.slack_rows.specs.Held.{AreOfWays, launches_of, two_of, windows_about}
 use Rattle.slack_rows.specs.Slack.{is_met}
 use Rattle.slack_rows.specs.Laws.{IsPlaced}
 use Rattle.slack_rows.specs.Limit.{edge_limits}
-use Rattle.slack_rows.specs.Views.{told_none, window_about, window_in}
+use Rattle.slack_rows.specs.Views.{finding_none, window_about, window_in}
 use Rattle.slack_rows.specs.Watch.{rise_watch}
 use Rattle.slack_rows.specs.Window.{Window, about}
 use Rattle.slack_rows.proofs.Checkers.{all_placed}
 use Rattle.slack_rows.proofs.Watching.{changes_are, may_are, met_edges, tell_never, tell_watch, windows_are}
 use Rattle.slack_rows.proofs.checker.rise_slacks.Goals as goal
 
-pub returns-then-edges-clause-told : goal.returns-then-edges-clause-told
-returns-then-edges-clause-told g c =
+pub returns-then-edges-clause-finding : goal.returns-then-edges-clause-finding
+returns-then-edges-clause-finding g c =
     let circuit = c.args.view.now.circuit.now in
     let ws = waves_of c.args.view.now.waves.now in
     let p = period circuit.header in
@@ -30,11 +30,11 @@ returns-then-edges-clause-told g c =
     let cells = g.W.CyclicWave.cells c.args.clock.now in
     λ input cyclic some are.
     tell_never p (launches_of circuit ws (Some held)) (two_of circuit ws (Some held)) held.place Change
-    (rise_watch p (edge_limits c.args.limits) (read cells) input) c.none.result (told_none Clock held.place Change) some
+    (rise_watch p (edge_limits c.args.limits) (read cells) input) c.none.result (finding_none Clock held.place Change) some
     (sym (c.in_ok-edges.ensures.are.all ∙ ap (all_events p) (may_are Rise cells)) ∙ c.if-edges.true) record { is = refl; near = tt } c.none.ensures
 
-pub returns-clause-told : goal.returns-clause-told
-returns-clause-told g c =
+pub returns-clause-finding : goal.returns-clause-finding
+returns-clause-finding g c =
     let circuit = c.args.view.now.circuit.now in
     let ws = waves_of c.args.view.now.waves.now in
     let p = period circuit.header in
@@ -56,7 +56,7 @@ returns-clause-told g c =
     (rise_watch p limits (read cells) input) c.in_ok-found.found windows are_windows some
     (sym (c.in_ok-edges.ensures.are.all ∙ ap (all_events p) (may_are Rise cells)) ∙ c.if-edges.false)
     c.in_ok-found.ensures.level
-    (λ all. c.in_ok-found.ensures.told (events Change input)
+    (λ all. c.in_ok-found.ensures.finding (events Change input)
     (changes_are p (events Change input) c.args.changes.now cyclic are (are.all ∙ all)) (are.all ∙ all)
     (subst (AllByRecursion (IsPlaced p)) (sym are_windows) (all_placed p rises limits one most)))
     (λ all. subst (λ (b : Bool). AreOfWays b c.in_ok-found.found)

@@ -34,8 +34,8 @@ about_edges-requires-clause-edges g c =
     subst (All (IsInPeriod p)) (sym edges_are)
     (spans_within p long (read cells) (read_again cells p c.requires.clock) c.args.limits c.requires.short)
 
-pub returns-clause-told : goal.returns-clause-told
-returns-clause-told g c =
+pub returns-clause-finding : goal.returns-clause-finding
+returns-clause-finding g c =
     let circuit = c.args.view.now.circuit.now in
     let ws = waves_of c.args.view.now.waves.now in
     let p = period circuit.header in
@@ -58,7 +58,7 @@ returns-clause-told g c =
     λ input cyclic some are.
     tell_watch p (launches_of circuit ws (Some held)) (two_of circuit ws (Some held)) held.place Change
     (span_watch p limits clock input) c.in_ok-found.found windows are_windows some never c.in_ok-found.ensures.level
-    (λ all. c.in_ok-found.ensures.told (events Change input)
+    (λ all. c.in_ok-found.ensures.finding (events Change input)
     (changes_are p (events Change input) c.args.changes.now cyclic are (are.all ∙ all)) (are.all ∙ all)
     (subst (AllByRecursion (IsPlaced p)) (sym are_windows) (all_spans_placed p long clock clock again again c.args.limits most)))
     (λ all. subst (λ (b : Bool). AreOfWays b c.in_ok-found.found)

@@ -22,8 +22,8 @@ slots-requires g c =
     length_folded (pin_wave circuit ws c.args.held.pin) (g.W.CyclicWave.cells c.in_ok-data.data) c.in_ok-data.ensures
     ∙ long_pin circuit ws c.args.held.pin c.requires.sees.fit.each_slot c.requires.pin
 
-pub returns-clause-told : goal.returns-clause-told
-returns-clause-told g c =
+pub returns-clause-finding : goal.returns-clause-finding
+returns-clause-finding g c =
     let circuit = c.args.view.now.circuit.now in
     let ws = waves_of c.args.view.now.waves.now in
     let p = period circuit.header in
@@ -35,6 +35,6 @@ returns-clause-told g c =
     let repeats : IsCyclic p (events Change (fold values w)) =
     (λ t. ap (λ (v : Value). moves Change (has v)) (folds_repeat p w long t)) in
     λ lets cyclic are.
-    c.still_slacks.ensures.told (events Change (fold values w)) lets repeats cyclic
+    c.still_slacks.ensures.finding (events Change (fold values w)) lets repeats cyclic
     (subst (λ (ev : Events). AreSlots p ev c.in_ok-changes.changes)
     (may_are Change cells ∙ ap (events Change) (read_folded w cells some c.in_ok-data.ensures)) c.in_ok-changes.ensures.are) are

@@ -14,8 +14,8 @@ use Rattle.slack_rows.proofs.Checkers.{folds_repeat}
 use Rattle.slack_rows.proofs.Parting.{tell_beside}
 use Rattle.slack_rows.proofs.gate.beside_if.Goals as goal
 
-pub returns-clause-told : goal.returns-clause-told
-returns-clause-told g c =
+pub returns-clause-finding : goal.returns-clause-finding
+returns-clause-finding g c =
     let circuit = c.args.view.now.circuit.now in
     let ws = waves_of c.args.view.now.waves.now in
     let p = period circuit.header in
@@ -34,4 +34,4 @@ returns-clause-told g c =
     (long_pin_at circuit ws j.pins marked c.requires.sees.fit.each_slot c.requires.fits.exists.reads c.requires.marked) t)) in
     λ are.
     tell_beside circuit ws j marked place held c.in_ok-found.found e.pin e.clock e.opens e.place beside
-    (c.in_ok-found.ensures.told (opens j.kind (pin_folds circuit ws j marked)) repeats are)
+    (c.in_ok-found.ensures.finding (opens j.kind (pin_folds circuit ws j marked)) repeats are)

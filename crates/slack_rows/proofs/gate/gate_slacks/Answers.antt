@@ -54,7 +54,7 @@ loop-place-preserved g c =
       goes = goes_then circuit ws c.args.paths.now.nodes c.loop-place.paths.nodes c.beside_if.new.paths.nodes c.loop-place.paths.met.entries
           c.beside_if.new.paths.met.entries c.loop-place.invariant.goes c.in_ok-found.ensures.paths;
       marked = marked_more circuit ws j marked c.loop-place.place c.loop-place.all c.in_ok-found.found c.lesser-all.result
-          c.loop-place.invariant.marked (c.in_ok-found.ensures.told are) c.lesser-all.ensures.level c.lesser-all.ensures.before
+          c.loop-place.invariant.marked (c.in_ok-found.ensures.finding are) c.lesser-all.ensures.level c.lesser-all.ensures.before
           c.lesser-all.ensures.after;
     }
 

@@ -5,11 +5,11 @@ use Rattle.fixpoint_engine.specs.Pins.{read}
 use Rattle.fixpoint_engine.proofs.ReadSlots.{read_at}
 use Rattle.critical_paths.specs.declared.direction.Direction.TheVariants.{Change, Rise}
 use Rattle.critical_paths.specs.Event.{events}
-use Rattle.slack_rows.specs.Limit.{still_after, still_before, told_still}
-use Rattle.slack_rows.specs.Slack.{told_of}
+use Rattle.slack_rows.specs.Limit.{still_after, still_before, finding_still}
+use Rattle.slack_rows.specs.Slack.{finding_of}
 use Rattle.slack_rows.specs.Views.{Tells}
 use Rattle.slack_rows.specs.declared.slack.Slacks.{Slacks}
-use Rattle.slack_rows.proofs.Tellings.{still_end, still_more, still_same}
+use Rattle.slack_rows.proofs.Findings.{still_end, still_more, still_same}
 use Rattle.slack_rows.proofs.quiet.quiet_slacks.Goals as goal
 use Rattle.slack_rows.proofs.quiet.quiet_slacks.Goals.{then-may_rise, else-may_rise}
 
@@ -28,14 +28,14 @@ loop-slot-preserved g c =
           let rises : has (read clock slot) false true ≡ true = here ∙ sym c.may_rise.ensures ∙ w.if-may_rise.true in
           record {
             before = still_more (length clock) (still_before (length clock) (events Change (read input))) (events Rise (read clock)) slot
-                c.loop-slot.all.before w.told.result c.if-may_rise.all.before rises c.loop-slot.invariant.before
-                (subst (λ (o : Option ℕ). Tells (length clock) w.told.result (told_of 1 Change (told_still o)))
-                (w.quiet_before.ensures ∙ ap (λ (n : ℕ). still_before n (events Change (read input)) slot) same) (w.told.ensures (length clock)))
+                c.loop-slot.all.before w.finding.result c.if-may_rise.all.before rises c.loop-slot.invariant.before
+                (subst (λ (o : Option ℕ). Tells (length clock) w.finding.result (finding_of 1 Change (finding_still o)))
+                (w.quiet_before.ensures ∙ ap (λ (n : ℕ). still_before n (events Change (read input)) slot) same) (w.finding.ensures (length clock)))
                 (ap (λ (all : Slacks). all.before) w.all-is ∙ w.lesser-all.ensures.before);
             after = still_more (length clock) (still_after (length clock) (events Change (read input))) (events Rise (read clock)) slot
-                c.loop-slot.all.after w.told-then-may_rise.result c.if-may_rise.all.after rises c.loop-slot.invariant.after
-                (subst (λ (o : Option ℕ). Tells (length clock) w.told-then-may_rise.result (told_of 1 Change (told_still o)))
-                (w.quiet_after.ensures ∙ ap (λ (n : ℕ). still_after n (events Change (read input)) slot) same) (w.told-then-may_rise.ensures (length clock)))
+                c.loop-slot.all.after w.finding-then-may_rise.result c.if-may_rise.all.after rises c.loop-slot.invariant.after
+                (subst (λ (o : Option ℕ). Tells (length clock) w.finding-then-may_rise.result (finding_of 1 Change (finding_still o)))
+                (w.quiet_after.ensures ∙ ap (λ (n : ℕ). still_after n (events Change (read input)) slot) same) (w.finding-then-may_rise.ensures (length clock)))
                 (ap (λ (all : Slacks). all.after) w.all-is ∙ w.lesser-all.ensures.after);
           }
       | else-may_rise w ↦

@@ -2,7 +2,7 @@ use Rattle.std.proofs.Common.{arith}
 use Rattle.scald_base.specs.Time.{period}
 use Rattle.fixpoint_engine.specs.Waves.{waves_of}
 use Rattle.slack_rows.specs.Held.{place_in}
-use Rattle.slack_rows.proofs.Gathering.{about_told, close_within, level_either, met_two}
+use Rattle.slack_rows.proofs.Gathering.{about_finding, close_within, level_either, met_two}
 use Rattle.slack_rows.proofs.Launching.{goes_then}
 use Rattle.slack_rows.proofs.sides.about.Goals as goal
 
@@ -26,13 +26,13 @@ pub returns-clause-level : goal.returns-clause-level
 returns-clause-level g c =
     level_either c.in_ok-two.two c.by_regions-regions.result c.either.result c.in_ok-two.ensures.level c.by_regions-regions.ensures.level c.either.ensures
 
-pub returns-clause-told : goal.returns-clause-told
-returns-clause-told g c =
+pub returns-clause-finding : goal.returns-clause-finding
+returns-clause-finding g c =
     λ ev are placed.
     let circuit = c.args.view.now.circuit.now in
     let long = c.period-period.ensures.shortest in
     let is = c.period-period.ensures.is in
-    about_told (period circuit.header) ev c.args.watch.changes.now (omega (arith, long, is)) are circuit (waves_of c.args.view.now.waves.now)
+    about_finding (period circuit.header) ev c.args.watch.changes.now (omega (arith, long, is)) are circuit (waves_of c.args.view.now.waves.now)
     c.args.watch.held c.args.window c.requires.window placed c.in_ok-all.all c.in_ok-all.ensures.are (place_in c.args.watch.held) c.args.watch.direction
     c.meets_two-met.result c.in_ok-two.two c.by_regions-regions.result c.either.result c.meets_two-met.ensures.two c.meets_two-met.ensures.met
     c.in_ok-two.ensures.only c.in_ok-two.ensures.broken c.by_regions-regions.ensures.before c.by_regions-regions.ensures.after c.either.ensures

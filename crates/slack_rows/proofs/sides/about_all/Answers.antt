@@ -15,7 +15,7 @@ loop-edge-init g c =
     record {
       goes = goes_none circuit ws c.args.paths.now.nodes c.args.paths.now.met.entries c.requires.knows;
       level = refl;
-      told = λ ev are placed. tell_none (period circuit.header) ev (launches_of circuit ws c.args.watch.held) (two_of circuit ws c.args.watch.held)
+      finding = λ ev are placed. tell_none (period circuit.header) ev (launches_of circuit ws c.args.watch.held) (two_of circuit ws c.args.watch.held)
           (place_in c.args.watch.held) c.args.watch.direction _ refl;
     }
 
@@ -32,20 +32,20 @@ loop-edge-preserved g c =
     record {
       goes = goes_then _ _ _ _ _ _ _ so.goes c.in_ok-found.ensures.paths;
       level = level_more c.loop-edge.all.level c.in_ok-found.found.level c.lesser-all.result.level c.lesser-all.ensures.level so.level c.in_ok-found.ensures.level;
-      told = λ ev are placed. tell_edge (period circuit.header) ev (launches_of circuit ws c.args.watch.held) (two_of circuit ws c.args.watch.held)
+      finding = λ ev are placed. tell_edge (period circuit.header) ev (launches_of circuit ws c.args.watch.held) (two_of circuit ws c.args.watch.held)
           (place_in c.args.watch.held) c.args.watch.direction c.args.watch.extent c.args.watch.edges.now c.loop-edge.edge-index _
-          c.window_of-window.result c.loop-edge.all c.in_ok-found.found c.lesser-all.result c.loop-edge-test.true (so.told ev are placed)
+          c.window_of-window.result c.loop-edge.all c.in_ok-found.found c.lesser-all.result c.loop-edge-test.true (so.finding ev are placed)
           c.window_of-window.ensures.is
-          (c.in_ok-found.ensures.told ev are (placed_at (period circuit.header) c.args.watch.extent c.args.watch.edges.now c.loop-edge.edge-index _
+          (c.in_ok-found.ensures.finding ev are (placed_at (period circuit.header) c.args.watch.extent c.args.watch.edges.now c.loop-edge.edge-index _
           c.window_of-window.result c.loop-edge-test.true placed c.window_of-window.ensures.is))
           c.in_ok-found.ensures.level c.lesser-all.ensures.level c.lesser-all.ensures.before c.lesser-all.ensures.after;
     }
 
-pub returns-clause-told : goal.returns-clause-told
-returns-clause-told g c =
+pub returns-clause-finding : goal.returns-clause-finding
+returns-clause-finding g c =
     λ ev are placed.
     let circuit = c.args.view.now.circuit.now in
     let ws = waves_of c.args.view.now.waves.now in
     subst (λ (es : List Region). TellWindows (period circuit.header) ev (launches_of circuit ws c.args.watch.held) (two_of circuit ws c.args.watch.held)
     (place_in c.args.watch.held) c.args.watch.direction (windows_about (period circuit.header) c.args.watch.extent es) c.loop-edge.all)
-    (take_all c.loop-edge.edge-index c.args.watch.edges.now c.loop-edge-test.false) (c.loop-edge.invariant.told ev are placed)
+    (take_all c.loop-edge.edge-index c.args.watch.edges.now c.loop-edge-test.false) (c.loop-edge.invariant.finding ev are placed)

@@ -13,7 +13,7 @@ invariant-loop-edge g l =
     record {
       goes : GoesOn l.view.circuit.now (waves_of l.view.waves.now) l.fn.paths.nodes l.paths.nodes l.paths.met.entries;
       level : l.all.level ≡ None;
-      told : (ev : Events) → AreChanges (period l.view.circuit.now.header) ev l.watch.changes.now →
+      finding : (ev : Events) → AreChanges (period l.view.circuit.now.header) ev l.watch.changes.now →
           AllByRecursion (IsPlaced (period l.view.circuit.now.header)) (windows_about (period l.view.circuit.now.header) l.watch.extent l.watch.edges.now) →
           TellWindows (period l.view.circuit.now.header) ev (launches_of l.view.circuit.now (waves_of l.view.waves.now) l.watch.held)
           (two_of l.view.circuit.now (waves_of l.view.waves.now) l.watch.held) (place_in l.watch.held) l.watch.direction

@@ -1,6 +1,6 @@
 use Rattle.std.proofs.Common.{◌∙◌, ◌&&◌, sym}
 use Rattle.slack_rows.specs.Rows.{are_one_region}
-use Rattle.slack_rows.specs.Views.{told_by_found}
+use Rattle.slack_rows.specs.Views.{finding_by_found}
 use Rattle.slack_rows.proofs.table.have_one_cause.Goals as goal
 
 pub returns-then-is_same_pin : goal.returns-then-is_same_pin
@@ -13,5 +13,5 @@ returns-else-is_same_pin c = λ near near_after.
     let p = c.args.period in
     c.if-is_same_pin.false
     ∙ (λ i. (sym c.if-is_same_pin.false ∙ c.is_same_pin.ensures p) i
-    && are_one_region p (told_by_found p c.args.before).place
-    (told_by_found p c.args.after).place)
+    && are_one_region p (finding_by_found p c.args.before).place
+    (finding_by_found p c.args.after).place)

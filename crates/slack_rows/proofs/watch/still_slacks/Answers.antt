@@ -14,8 +14,8 @@ use Rattle.slack_rows.specs.declared.slack.Reason.TheVariants.{Data, Mark, Still
 use Rattle.slack_rows.specs.declared.slack.Slacks.{Slacks}
 use Rattle.slack_rows.specs.Held.{AreChanges, AreSlots, are_none, launches_of, place_in, same_both, two_of, windows_about, without_windows}
 use Rattle.slack_rows.specs.Laws.{IsPlaced}
-use Rattle.slack_rows.specs.Slack.{NoNumber, Nowhere, told_alone, told_of}
-use Rattle.slack_rows.specs.Views.{told_by_found, told_none}
+use Rattle.slack_rows.specs.Slack.{NoNumber, Nowhere, finding_alone, finding_of}
+use Rattle.slack_rows.specs.Views.{finding_by_found, finding_none}
 use Rattle.slack_rows.specs.Window.{about, extent_of}
 use Rattle.slack_rows.proofs.Checkers.{all_placed}
 use Rattle.slack_rows.proofs.Parting.{no_first_way, no_last_way, none_parts, parts_always, parts_free, parts_never, parts_unmet, parts_windows, some_parts}
@@ -37,8 +37,8 @@ some_of p ev slots long cyclic are some = by (all_events p ev) refl
         something_here p ev cyclic long
         (λ none. some_parts slots.are_all (length slots.regions) some (are.all ∙ all) (ap length are.regions ∙ none))
 
-pub returns-then-is_free-clause-told : goal.returns-then-is_free-clause-told
-returns-then-is_free-clause-told g c =
+pub returns-then-is_free-clause-finding : goal.returns-then-is_free-clause-finding
+returns-then-is_free-clause-finding g c =
     let circuit = c.args.view.now.circuit.now in
     let ws = waves_of c.args.view.now.waves.now in
     let p = period circuit.header in
@@ -53,8 +53,8 @@ returns-then-is_free-clause-told g c =
     none (no_last_way circuit ws held) (no_first_way circuit ws held)
     (nothing_here p ev cyclic long (sym are.all ∙ parts.0) (sym (ap length are.regions) ∙ parts.1)) refl
 
-pub returns-then-is_unmet-clause-told : goal.returns-then-is_unmet-clause-told
-returns-then-is_unmet-clause-told g c =
+pub returns-then-is_unmet-clause-finding : goal.returns-then-is_unmet-clause-finding
+returns-then-is_unmet-clause-finding g c =
     let circuit = c.args.view.now.circuit.now in
     let ws = waves_of c.args.view.now.waves.now in
     let p = period circuit.header in
@@ -69,8 +69,8 @@ returns-then-is_unmet-clause-told g c =
     none (no_last_way circuit ws held) (no_first_way circuit ws held)
     (none_of ticks_of_region (regions p quiet) (sym (ap length are_quiet.regions) ∙ parts.1)) (sym are_quiet.all ∙ parts.0) refl
 
-pub returns-then-still-clause-told : goal.returns-then-still-clause-told
-returns-then-still-clause-told g c =
+pub returns-then-still-clause-finding : goal.returns-then-still-clause-finding
+returns-then-still-clause-finding g c =
     let circuit = c.args.view.now.circuit.now in
     let ws = waves_of c.args.view.now.waves.now in
     let p = period circuit.header in
@@ -79,8 +79,8 @@ returns-then-still-clause-told g c =
     let held = c.args.held in
     let d = c.args.direction in
     let changes = c.args.changes.now in
-    let told = told_none c.never_still.result c.place_of.result d in
-    let told_is : told_of (place_in held) d (told_alone NoNumber) ≡ told_by_found p told =
+    let finding = finding_none c.never_still.result c.place_of.result d in
+    let finding_is : finding_of (place_in held) d (finding_alone NoNumber) ≡ finding_by_found p finding =
     (λ i. record {
       slack = NoNumber;
       place = sym c.never_still.ensures.place i;
@@ -89,11 +89,11 @@ returns-then-still-clause-told g c =
     }) in
     λ ev quiet cyclic still are are_quiet.
     parts_never p long ev quiet cyclic still (launches_of circuit ws held) (two_of circuit ws held) (place_in held) d
-    c.level.result (no_last_way circuit ws held) (no_first_way circuit ws held) told (sym are_quiet.all ∙ c.if-still.true)
-    (some_of p ev changes long cyclic are (sym c.are_none-is_free.ensures ∙ c.if-is_free.false)) record { is = told_is; near = tt } c.level.ensures
+    c.level.result (no_last_way circuit ws held) (no_first_way circuit ws held) finding (sym are_quiet.all ∙ c.if-still.true)
+    (some_of p ev changes long cyclic are (sym c.are_none-is_free.ensures ∙ c.if-is_free.false)) record { is = finding_is; near = tt } c.level.ensures
 
-pub returns-then-changes-clause-told : goal.returns-then-changes-clause-told
-returns-then-changes-clause-told g c =
+pub returns-then-changes-clause-finding : goal.returns-then-changes-clause-finding
+returns-then-changes-clause-finding g c =
     let circuit = c.args.view.now.circuit.now in
     let ws = waves_of c.args.view.now.waves.now in
     let p = period circuit.header in
@@ -102,23 +102,23 @@ returns-then-changes-clause-told g c =
     let held = c.args.held in
     let d = c.args.direction in
     let slots = c.args.still.now in
-    let told = told_none Data c.place_of-then-changes.result d in
-    let told_is : told_of (place_in held) d (told_alone NoNumber) ≡ told_by_found p told =
+    let finding = finding_none Data c.place_of-then-changes.result d in
+    let finding_is : finding_of (place_in held) d (finding_alone NoNumber) ≡ finding_by_found p finding =
     (λ i. record { slack = NoNumber; place = Nowhere; pin = sym c.place_of-then-changes.ensures i; direction = d }) in
     λ ev quiet cyclic still are are_quiet.
     parts_always p long ev quiet cyclic still (launches_of circuit ws held) (two_of circuit ws held) (place_in held) d
-    c.none.result (no_last_way circuit ws held) (no_first_way circuit ws held) told (sym are_quiet.all ∙ c.if-still.false)
+    c.none.result (no_last_way circuit ws held) (no_first_way circuit ws held) finding (sym are_quiet.all ∙ c.if-still.false)
     (λ none. some_parts slots.are_all (length slots.regions) (sym c.are_none-is_unmet.ensures ∙ c.if-is_unmet.false) c.if-still.false
     (ap length are_quiet.regions ∙ ap (λ (rs : List Region). length (map ticks_of_region rs)) none))
-    (sym are.all ∙ c.if-changes.true) record { is = told_is; near = tt } c.none.ensures
+    (sym are.all ∙ c.if-changes.true) record { is = finding_is; near = tt } c.none.ensures
 
 pub about_all-requires-clause-extent : goal.about_all-requires-clause-extent
 about_all-requires-clause-extent g c =
     let least = c.period-period.ensures.shortest in
     omega (arith, least, c.period-period.ensures.is)
 
-pub returns-clause-told : goal.returns-clause-told
-returns-clause-told g c =
+pub returns-clause-finding : goal.returns-clause-finding
+returns-clause-finding g c =
     let circuit = c.args.view.now.circuit.now in
     let ws = waves_of c.args.view.now.waves.now in
     let p = period circuit.header in
@@ -136,15 +136,15 @@ returns-clause-told g c =
     c.in_ok-found.found (no_last_way circuit ws held) (no_first_way circuit ws held) windows are_windows
     (sym are_quiet.all ∙ c.if-still.false)
     (some_of p ev changes long cyclic are (sym c.are_none-is_free.ensures ∙ c.if-is_free.false)) (sym are.all ∙ c.if-changes.false)
-    (c.in_ok-found.ensures.told ev
+    (c.in_ok-found.ensures.finding ev
     (subst (AreChanges p ev) (sym c.as_slice-moving.ensures) (changes_are p ev changes cyclic are c.if-changes.false))
     (subst (AllByRecursion (IsPlaced p)) (sym are_windows) (all_placed p quiet (extent_of 1 0) (omega arith) (omega (arith, long)))))
 
 -- ---- without windows
 
-are : (o : Option Slacks) (found told : Slacks) → o ≡ Some found → told ≡ found → IfSome o (λ f. told ≡ f)
-are None found told is same = absurd (cc)
-are (Some f) found told is same = same ∙ sym (let own : f ≡ found = cc in own)
+are : (o : Option Slacks) (found finding : Slacks) → o ≡ Some found → finding ≡ found → IfSome o (λ f. finding ≡ f)
+are None found finding is same = absurd (cc)
+are (Some f) found finding is same = same ∙ sym (let own : f ≡ found = cc in own)
 
 nowhere : (o : Option Slacks) (P : Slacks → Type 0) → o ≡ None → IfSome o P
 nowhere None P none = tt
@@ -153,8 +153,8 @@ nowhere (Some f) P none = absurd (cc)
 abbrev without : Option Held → Direction → Bool → Bool → Bool → Bool → Option Slacks
 without held d free unmet still all =
     cond (free || unmet) (Some (same_both None))
-    (cond still (Some (record { level = Some (told_none (cond (is_some held) Mark Still) (place_in held) d); before = None; after = None }))
-    (cond all (Some (same_both (Some (told_none Data (place_in held) d)))) None))
+    (cond still (Some (record { level = Some (finding_none (cond (is_some held) Mark Still) (place_in held) d); before = None; after = None }))
+    (cond all (Some (same_both (Some (finding_none Data (place_in held) d)))) None))
 
 pub returns-then-is_free-clause-without : goal.returns-then-is_free-clause-without
 returns-then-is_free-clause-without g c =
@@ -186,10 +186,10 @@ returns-then-still-clause-without g c =
     let unmet : are_none still ≡ false = sym c.are_none-is_unmet.ensures ∙ c.if-is_unmet.false in
     let all : still.are_all ≡ true = c.if-still.true in
     are (without_windows held d changes still)
-    (record { level = Some (told_none (cond (is_some held) Mark Still) (place_in held) d); before = None; after = None }) _
+    (record { level = Some (finding_none (cond (is_some held) Mark Still) (place_in held) d); before = None; after = None }) _
     (λ i. without held d (free i) (unmet i) (all i) changes.are_all)
     (c.level.ensures
-    ∙ (λ i. record { level = Some (told_none (c.never_still.ensures.is i) (c.place_of.ensures i) d); before = None; after = None }))
+    ∙ (λ i. record { level = Some (finding_none (c.never_still.ensures.is i) (c.place_of.ensures i) d); before = None; after = None }))
 
 pub returns-then-changes-clause-without : goal.returns-then-changes-clause-without
 returns-then-changes-clause-without g c =
@@ -201,9 +201,9 @@ returns-then-changes-clause-without g c =
     let unmet : are_none still ≡ false = sym c.are_none-is_unmet.ensures ∙ c.if-is_unmet.false in
     let some : still.are_all ≡ false = c.if-still.false in
     let all : changes.are_all ≡ true = c.if-changes.true in
-    are (without_windows held d changes still) (same_both (Some (told_none Data (place_in held) d))) _
+    are (without_windows held d changes still) (same_both (Some (finding_none Data (place_in held) d))) _
     (λ i. without held d (free i) (unmet i) (some i) (all i))
-    (c.none.ensures ∙ (λ i. same_both (Some (told_none Data (c.place_of-then-changes.ensures i) d))))
+    (c.none.ensures ∙ (λ i. same_both (Some (finding_none Data (c.place_of-then-changes.ensures i) d))))
 
 pub returns-clause-without : goal.returns-clause-without
 returns-clause-without g c =

@@ -6,7 +6,7 @@ use Rattle.fixpoint_engine.specs.Waves.{target_wire}
 use Rattle.critical_paths.specs.Path.{bound}
 use Rattle.critical_paths.specs.Reached.{arrived}
 use Rattle.critical_paths.proofs.Arriving.{taken_more, taken_none}
-use Rattle.slack_rows.specs.declared.slack.Told.{Told as Found}
+use Rattle.slack_rows.specs.declared.slack.Finding.{Finding as Found}
 use Rattle.slack_rows.specs.Arrived.{with_arrival}
 use Rattle.slack_rows.proofs.ways.best_of.Goals as goal
 

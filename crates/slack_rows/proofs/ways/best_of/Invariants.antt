@@ -16,5 +16,5 @@ invariant-loop-number g l =
       is : l.best ≡ fold (with_arrival (period l.view.circuit.now.header)
           (bound l.sought.corner (target_wire l.view.circuit.now.nets l.sought.held.pin.target)) l.edges
           l.sought) l.fn.so_far (arrivals_in l.paths.arrivals (l.from, l.number));
-      starred : IfSome l.best (λ told. is_starred (slack_by told.slack) ≡ true);
+      starred : IfSome l.best (λ finding. is_starred (slack_by finding.slack) ≡ true);
     }

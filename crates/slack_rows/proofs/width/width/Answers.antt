@@ -11,14 +11,14 @@ use Rattle.fixpoint_engine.specs.Waves.{pin_wave, waves_of}
 use Rattle.fixpoint_engine.proofs.Fits.{long_pin}
 use Rattle.slack_rows.specs.declared.slack.By.TheVariants.{Pulse as ByPulse, Repeated, Swallowed}
 use Rattle.slack_rows.specs.Limit.{begin_of}
-use Rattle.slack_rows.specs.Pulse.{Pulse, changes_again, left_at, may_change_again, narrowest, told_wave}
-use Rattle.slack_rows.specs.Slack.{told_of}
+use Rattle.slack_rows.specs.Pulse.{Pulse, changes_again, left_at, may_change_again, narrowest, finding_wave}
+use Rattle.slack_rows.specs.Slack.{finding_of}
 use Rattle.slack_rows.specs.Views.{comes_again}
-use Rattle.slack_rows.proofs.Breadths.{told_near, tells_swallowed, tells_whole, width_left, width_none, width_repeated, width_whole}
+use Rattle.slack_rows.proofs.Breadths.{finding_near, tells_swallowed, tells_whole, width_left, width_none, width_repeated, width_whole}
 use Rattle.slack_rows.proofs.width.width.Goals as goal
 
-pub returns-in_default-clause-told : goal.returns-in_default-clause-told
-returns-in_default-clause-told g c =
+pub returns-in_default-clause-finding : goal.returns-in_default-clause-finding
+returns-in_default-clause-finding g c =
     let circuit = c.args.view.now.circuit.now in
     let ws = waves_of c.args.view.now.waves.now in
     let pin = c.args.pin in
@@ -32,10 +32,10 @@ returns-in_default-clause-told g c =
     ∙ long_pin circuit ws pin c.requires.sees.fit.each_slot c.requires.pin in
     let found = sym (λ i. narrowest (long i) level (read (cells i)))
     ∙ sym c.narrowest.ensures.is ∙ c.in_default.is in
-    ap (λ (o : Option Pulse). (told_of 0 (begin_of level) (told_wave limit left wave o)).slack) found
+    ap (λ (o : Option Pulse). (finding_of 0 (begin_of level) (finding_wave limit left wave o)).slack) found
 
-pub returns-then-is_repeated-clause-told : goal.returns-then-is_repeated-clause-told
-returns-then-is_repeated-clause-told g c =
+pub returns-then-is_repeated-clause-finding : goal.returns-then-is_repeated-clause-finding
+returns-then-is_repeated-clause-finding g c =
     let circuit = c.args.view.now.circuit.now in
     let ws = waves_of c.args.view.now.waves.now in
     let pin = c.args.pin in
@@ -56,15 +56,15 @@ returns-then-is_repeated-clause-told g c =
     let last = c.ticks-window.ensures.last in
     let ends : c.ticks-window.result.last ≡ c.ticks-window.result.first +ℤ pos pulse.1 =
     omega (arith, ints, first, last, c.from.ensures, c.from-2.ensures) in
-    told_near p c.told-repeated.result _ Repeated c.told-repeated.ensures.way tt
-    (ap (λ (o : Option Pulse). told_of 0 (begin_of level) (told_wave limit left wave o)) found
-    ∙ tells_whole p (begin_of level) limit pulse c.told-repeated.result c.ticks-window.result
-    c.told-repeated.ensures.slack c.told-repeated.ensures.window c.told-repeated.ensures.pin c.told-repeated.ensures.direction
-    c.told-repeated.ensures.tick (pos pulse.1) ends wave left Repeated c.told-repeated.ensures.way refl
+    finding_near p c.finding-repeated.result _ Repeated c.finding-repeated.ensures.way tt
+    (ap (λ (o : Option Pulse). finding_of 0 (begin_of level) (finding_wave limit left wave o)) found
+    ∙ tells_whole p (begin_of level) limit pulse c.finding-repeated.result c.ticks-window.result
+    c.finding-repeated.ensures.slack c.finding-repeated.ensures.window c.finding-repeated.ensures.pin c.finding-repeated.ensures.direction
+    c.finding-repeated.ensures.tick (pos pulse.1) ends wave left Repeated c.finding-repeated.ensures.way refl
     (width_repeated pulse limit (may_change_again wave pulse) left (sym again ∙ c.if-is_repeated.true)) refl)
 
-pub returns-then-not-may_vanish-clause-told : goal.returns-then-not-may_vanish-clause-told
-returns-then-not-may_vanish-clause-told g c =
+pub returns-then-not-may_vanish-clause-finding : goal.returns-then-not-may_vanish-clause-finding
+returns-then-not-may_vanish-clause-finding g c =
     let circuit = c.args.view.now.circuit.now in
     let ws = waves_of c.args.view.now.waves.now in
     let pin = c.args.pin in
@@ -85,16 +85,16 @@ returns-then-not-may_vanish-clause-told g c =
     let last = c.ticks-window.ensures.last in
     let ends : c.ticks-window.result.last ≡ c.ticks-window.result.first +ℤ pos pulse.1 =
     omega (arith, ints, first, last, c.from.ensures, c.from-2.ensures) in
-    told_near p c.told-wide.result _ ByPulse c.told-wide.ensures.way tt
-    (ap (λ (o : Option Pulse). told_of 0 (begin_of level) (told_wave limit left wave o)) found
-    ∙ tells_whole p (begin_of level) limit pulse c.told-wide.result c.ticks-window.result
-    c.told-wide.ensures.slack c.told-wide.ensures.window c.told-wide.ensures.pin c.told-wide.ensures.direction
-    c.told-wide.ensures.tick (pos pulse.1) ends wave left ByPulse c.told-wide.ensures.way refl
+    finding_near p c.finding-wide.result _ ByPulse c.finding-wide.ensures.way tt
+    (ap (λ (o : Option Pulse). finding_of 0 (begin_of level) (finding_wave limit left wave o)) found
+    ∙ tells_whole p (begin_of level) limit pulse c.finding-wide.result c.ticks-window.result
+    c.finding-wide.ensures.slack c.finding-wide.ensures.window c.finding-wide.ensures.pin c.finding-wide.ensures.direction
+    c.finding-wide.ensures.tick (pos pulse.1) ends wave left ByPulse c.finding-wide.ensures.way refl
     (width_whole pulse limit (may_change_again wave pulse) left
     (sym c.may_vanish.ensures ∙ c.if-not-may_vanish.true)) refl)
 
-pub returns-in-None-clause-told : goal.returns-in-None-clause-told
-returns-in-None-clause-told g c =
+pub returns-in-None-clause-finding : goal.returns-in-None-clause-finding
+returns-in-None-clause-finding g c =
     let circuit = c.args.view.now.circuit.now in
     let ws = waves_of c.args.view.now.waves.now in
     let pin = c.args.pin in
@@ -115,16 +115,16 @@ returns-in-None-clause-told g c =
     let last = c.ticks-window.ensures.last in
     let ends : c.ticks-window.result.last ≡ c.ticks-window.result.first +ℤ pos pulse.1 =
     omega (arith, ints, first, last, c.from.ensures, c.from-2.ensures) in
-    told_near p c.told-kept.result _ ByPulse c.told-kept.ensures.way tt
-    (ap (λ (o : Option Pulse). told_of 0 (begin_of level) (told_wave limit left wave o)) found
-    ∙ tells_whole p (begin_of level) limit pulse c.told-kept.result c.ticks-window.result
-    c.told-kept.ensures.slack c.told-kept.ensures.window c.told-kept.ensures.pin c.told-kept.ensures.direction
-    c.told-kept.ensures.tick (pos pulse.1) ends wave left ByPulse c.told-kept.ensures.way refl
+    finding_near p c.finding-kept.result _ ByPulse c.finding-kept.ensures.way tt
+    (ap (λ (o : Option Pulse). finding_of 0 (begin_of level) (finding_wave limit left wave o)) found
+    ∙ tells_whole p (begin_of level) limit pulse c.finding-kept.result c.ticks-window.result
+    c.finding-kept.ensures.slack c.finding-kept.ensures.window c.finding-kept.ensures.pin c.finding-kept.ensures.direction
+    c.finding-kept.ensures.tick (pos pulse.1) ends wave left ByPulse c.finding-kept.ensures.way refl
     (width_none pulse limit (may_change_again wave pulse) left
     (sym c.in_ok-swallowed.ensures.left ∙ ap (option_map (λ left. left.1)) c.in-None.is)) refl)
 
-pub returns-clause-told : goal.returns-clause-told
-returns-clause-told g c =
+pub returns-clause-finding : goal.returns-clause-finding
+returns-clause-finding g c =
     let circuit = c.args.view.now.circuit.now in
     let ws = waves_of c.args.view.now.waves.now in
     let pin = c.args.pin in
@@ -149,11 +149,11 @@ returns-clause-told g c =
     let narrow : ((pulse.1 == 1) && nat_lt 1 limit) ≡ true = sym c.may_vanish.ensures ∙ c.if-not-may_vanish.false in
     let one : pulse.1 ≡ 1 = eqb-true pulse.1 1 (and_parts (pulse.1 == 1) (nat_lt 1 limit) narrow).0 in
     let is : option_map (λ left. left.1) c.in_ok-swallowed.field-0 ≡ Some n = search rules in
-    told_near p c.told-gone.result _ Swallowed c.told-gone.ensures.way tt
-    (ap (λ (o : Option Pulse). told_of 0 (begin_of level) (told_wave limit left wave o)) found
-    ∙ tells_swallowed p (begin_of level) limit pulse c.told-gone.result c.ticks-rest.result
-    c.told-gone.ensures.slack c.told-gone.ensures.window c.told-gone.ensures.pin c.told-gone.ensures.direction
-    c.told-gone.ensures.tick n ends wave left c.told-gone.ensures.way one
+    finding_near p c.finding-gone.result _ Swallowed c.finding-gone.ensures.way tt
+    (ap (λ (o : Option Pulse). finding_of 0 (begin_of level) (finding_wave limit left wave o)) found
+    ∙ tells_swallowed p (begin_of level) limit pulse c.finding-gone.result c.ticks-rest.result
+    c.finding-gone.ensures.slack c.finding-gone.ensures.window c.finding-gone.ensures.pin c.finding-gone.ensures.direction
+    c.finding-gone.ensures.tick n ends wave left c.finding-gone.ensures.way one
     (width_left pulse limit (may_change_again wave pulse) left n (sym again ∙ c.if-is_repeated.false)
     (sym c.in_ok-swallowed.ensures.left ∙ is) narrow))
 
@@ -170,7 +170,7 @@ returns-then-is_repeated-clause-again g c =
     ∙ sym c.narrowest.ensures.is ∙ c.in-Some.is in
     let again : c.is_repeated.result ≡ may_change_again wave c.in-Some.pulse =
     c.is_repeated.ensures ∙ ap (λ xs. may_change_again (read xs) c.in-Some.pulse) cells in
-    ap comes_again c.told-repeated.ensures.way ∙ sym c.if-is_repeated.true ∙ again
+    ap comes_again c.finding-repeated.ensures.way ∙ sym c.if-is_repeated.true ∙ again
     ∙ sym (ap (changes_again wave) found)
 
 pub returns-then-not-may_vanish-clause-again : goal.returns-then-not-may_vanish-clause-again
@@ -186,7 +186,7 @@ returns-then-not-may_vanish-clause-again g c =
     ∙ sym c.narrowest.ensures.is ∙ c.in-Some.is in
     let again : c.is_repeated.result ≡ may_change_again wave c.in-Some.pulse =
     c.is_repeated.ensures ∙ ap (λ xs. may_change_again (read xs) c.in-Some.pulse) cells in
-    ap comes_again c.told-wide.ensures.way ∙ sym c.if-is_repeated.false ∙ again
+    ap comes_again c.finding-wide.ensures.way ∙ sym c.if-is_repeated.false ∙ again
     ∙ sym (ap (changes_again wave) found)
 
 pub returns-in-None-clause-again : goal.returns-in-None-clause-again
@@ -202,7 +202,7 @@ returns-in-None-clause-again g c =
     ∙ sym c.narrowest.ensures.is ∙ c.in-Some.is in
     let again : c.is_repeated.result ≡ may_change_again wave c.in-Some.pulse =
     c.is_repeated.ensures ∙ ap (λ xs. may_change_again (read xs) c.in-Some.pulse) cells in
-    ap comes_again c.told-kept.ensures.way ∙ sym c.if-is_repeated.false ∙ again
+    ap comes_again c.finding-kept.ensures.way ∙ sym c.if-is_repeated.false ∙ again
     ∙ sym (ap (changes_again wave) found)
 
 pub returns-clause-again : goal.returns-clause-again
@@ -218,5 +218,5 @@ returns-clause-again g c =
     ∙ sym c.narrowest.ensures.is ∙ c.in-Some.is in
     let again : c.is_repeated.result ≡ may_change_again wave c.in-Some.pulse =
     c.is_repeated.ensures ∙ ap (λ xs. may_change_again (read xs) c.in-Some.pulse) cells in
-    ap comes_again c.told-gone.ensures.way ∙ sym c.if-is_repeated.false ∙ again
+    ap comes_again c.finding-gone.ensures.way ∙ sym c.if-is_repeated.false ∙ again
     ∙ sym (ap (changes_again wave) found)

@@ -4,10 +4,10 @@ use Rattle.flat_circuit.specs.Limits.{high_of, low_of}
 use Rattle.fixpoint_engine.specs.Pins.{read}
 use Rattle.fixpoint_engine.specs.Waves.{pin_wave, waves_of}
 use Rattle.slack_rows.specs.Limit.{begin_of}
-use Rattle.slack_rows.specs.Pulse.{left_at, narrowest, told_wave}
-use Rattle.slack_rows.specs.Slack.{told_of}
+use Rattle.slack_rows.specs.Pulse.{left_at, narrowest, finding_wave}
+use Rattle.slack_rows.specs.Slack.{finding_of}
 use Rattle.slack_rows.specs.Views.{Tells}
-use Rattle.slack_rows.proofs.Breadths.{level_told, pin_of_net}
+use Rattle.slack_rows.proofs.Breadths.{level_finding, pin_of_net}
 use Rattle.slack_rows.proofs.width.width_slacks.Goals as goal
 
 pub width-requires-clause-pin : goal.width-requires-clause-pin
@@ -27,9 +27,9 @@ returns g c =
     let pin = c.first_pin-pin.result in
     let wave = read (pin_wave d ws pin).cells in (
       subst (Tells p c.in_ok-width.field-0)
-          (ap (λ (limit : ℕ). told_of 0 (begin_of true) (told_wave limit (left_at d ws true pin) wave (narrowest p true wave))) c.high.ensures
-          ∙ level_told d ws j true (high_of j.limits) pin c.first_pin-pin.ensures) c.in_ok-width.ensures.told,
+          (ap (λ (limit : ℕ). finding_of 0 (begin_of true) (finding_wave limit (left_at d ws true pin) wave (narrowest p true wave))) c.high.ensures
+          ∙ level_finding d ws j true (high_of j.limits) pin c.first_pin-pin.ensures) c.in_ok-width.ensures.finding,
       subst (Tells p c.in_ok-width-2.field-0)
-          (ap (λ (limit : ℕ). told_of 0 (begin_of false) (told_wave limit (left_at d ws false pin) wave (narrowest p false wave))) c.low.ensures
-          ∙ level_told d ws j false (low_of j.limits) pin c.first_pin-pin.ensures) c.in_ok-width-2.ensures.told,
+          (ap (λ (limit : ℕ). finding_of 0 (begin_of false) (finding_wave limit (left_at d ws false pin) wave (narrowest p false wave))) c.low.ensures
+          ∙ level_finding d ws j false (low_of j.limits) pin c.first_pin-pin.ensures) c.in_ok-width-2.ensures.finding,
     )

@@ -6,7 +6,7 @@ use Rattle.critical_paths.specs.declared.path.Passage.{Passage}
 use Rattle.critical_paths.specs.declared.path.Paths.{Paths}
 use Rattle.critical_paths.specs.Known.{Grows, Has, IsBegun, are_met, path_known, stop_after}
 use Rattle.critical_paths.specs.Walk.{path_of_stop}
-use Rattle.critical_paths.proofs.Memo.{told_is}
+use Rattle.critical_paths.proofs.Memo.{noted_is}
 use Rattle.critical_paths.proofs.Settles.{begin_more_at, grows_then, known_within, short_node, small_circuit, small_stops}
 use Rattle.critical_paths.proofs.Staying.{stays}
 use Rattle.critical_paths.proofs.path.Paths.link.Goals as goal
@@ -121,7 +121,7 @@ returns-clause-path g c =
     let done : c.args.past - c.loop-back.back ≡ 0 = omega (arith, past) in
     subst (λ (k : ℕ). path_known nodes c.loop-back.number
     ≡ Some (path_of_stop circuit ws (stop_after chain t k))) done
-    (told_is circuit ws nodes (are_met met) (stop_after chain t (c.args.past - c.loop-back.back))
+    (noted_is circuit ws nodes (are_met met) (stop_after chain t (c.args.past - c.loop-back.back))
     c.loop-back.number
     (begun.knows.each (stop_after chain t (c.args.past - c.loop-back.back)) c.loop-back.number
     begun.has))

@@ -5,13 +5,13 @@ use Rattle.std.proofs.lemmas.Int.{ints}
 use Rattle.scald_base.specs.Time.{period}
 use Rattle.fixpoint_engine.specs.Waves.{waves_of}
 use Rattle.critical_paths.specs.declared.cause.Asked.{Asked}
-use Rattle.critical_paths.specs.declared.event.Event.{Event as Told}
+use Rattle.critical_paths.specs.declared.event.Event.{Event as Noted}
 use Rattle.critical_paths.specs.declared.path.Passage.TheVariants.{Cut}
 use Rattle.critical_paths.specs.Event.{is_step, turned}
 use Rattle.critical_paths.specs.Path.{cut_off, is_cut_by}
 use Rattle.critical_paths.specs.Tick.{IsWithin, most_tick, slot_of}
 use Rattle.critical_paths.specs.Views.{before_of, event_of}
-use Rattle.critical_paths.proofs.Cutting.{cut_told, mapped_if}
+use Rattle.critical_paths.proofs.Cutting.{cut_noted, mapped_if}
 use Rattle.critical_paths.proofs.view.View.cutter_at.Goals as goal
 
 pub cuts-requires-clause-is : goal.cuts-requires-clause-is
@@ -47,7 +47,7 @@ returns g c =
     omega (arith, ints, near, within, c.beside-tick.ensures.is) in
     let late : to_z w8 (of_z w8 c.args.late) ≡ c.args.late = omega (arith, ints) in
     λ s two.
-    cut_told circuit ws j asked.corner s two event.net other c.args.late
+    cut_noted circuit ws j asked.corner s two event.net other c.args.late
     (slot_of p (event.tick -ℤ c.args.late)) c.in_ok-is_cut.is_cut _
     (c.in_ok-is_cut.ensures s c.args.late
     (ap (λ (a : Asked). a.element.now.split) c.at-cutting.ensures ∙ two)
@@ -58,7 +58,7 @@ returns g c =
     (cut_off event.net (turned j.out_inverted other) c.args.late (slot_of p t))) tick)
     (ap (option_map (before_of p)) c.cut_by_event.ensures
     ∙ mapped_if (before_of p) c.in_ok-is_cut.is_cut _
-    ∙ ap (λ (e : Told). cond c.in_ok-is_cut.is_cut (Some (record {
+    ∙ ap (λ (e : Noted). cond c.in_ok-is_cut.is_cut (Some (record {
       passage = Cut (to_z w8 (of_z w8 c.args.late));
       event = event_of p e;
     })) None) c.at-there.ensures

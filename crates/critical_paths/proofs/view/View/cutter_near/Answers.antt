@@ -12,18 +12,18 @@ returns-then-is_some g c =
 
 pub returns-then-is_some-2 : goal.returns-then-is_some-2
 returns-then-is_some-2 g c =
-    let told = before_of (period c.args.self.now.circuit.now.header) in
+    let noted = before_of (period c.args.self.now.circuit.now.header) in
     λ s two.
-    left told c.in_ok-here.here _ _ _ (sym c.is_some.ensures ∙ c.if-is_some.false)
+    left noted c.in_ok-here.here _ _ _ (sym c.is_some.ensures ∙ c.if-is_some.false)
     (c.in_ok-here.ensures s two)
-    (taken told c.in_ok-before.before _ _ (sym c.is_some-2.ensures ∙ c.if-is_some-2.true)
+    (taken noted c.in_ok-before.before _ _ (sym c.is_some-2.ensures ∙ c.if-is_some-2.true)
     (c.in_ok-before.ensures s two))
 
 pub returns : goal.returns
 returns g c =
-    let told = before_of (period c.args.self.now.circuit.now.header) in
+    let noted = before_of (period c.args.self.now.circuit.now.header) in
     λ s two.
-    left told c.in_ok-here.here _ _ _ (sym c.is_some.ensures ∙ c.if-is_some.false)
+    left noted c.in_ok-here.here _ _ _ (sym c.is_some.ensures ∙ c.if-is_some.false)
     (c.in_ok-here.ensures s two)
-    (left told c.in_ok-before.before _ _ _ (sym c.is_some-2.ensures ∙ c.if-is_some-2.false)
+    (left noted c.in_ok-before.before _ _ _ (sym c.is_some-2.ensures ∙ c.if-is_some-2.false)
     (c.in_ok-before.ensures s two) (c.in_ok-after.ensures s two))

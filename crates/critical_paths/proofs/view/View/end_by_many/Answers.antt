@@ -18,7 +18,7 @@ returns g c =
     let q = slot_of p asked.tick in
     c.folded.ensures p
     ∙ ap (option_map by_folds) (c.through_some-back.ensures
-    ∙ ap (option_and_then (before_arc circuit ws j asked.corner q)) (c.many_arc-told.ensures
+    ∙ ap (option_and_then (before_arc circuit ws j asked.corner q)) (c.many_arc-noted.ensures
     ∙ ap (option_map (with_word j.split)) c.in_ok-found.ensures)
     ∙ then_mapped (before_arc circuit ws j asked.corner q) (with_word j.split)
     (arc_inward circuit ws j asked.corner asked.direction q c.args.delay 0))

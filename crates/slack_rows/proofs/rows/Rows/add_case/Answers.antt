@@ -55,7 +55,7 @@ loop-place-preserved g c =
       cases = kept.cases;
       period = kept.period;
       knows = c.in_ok-least.ensures.paths.knows;
-      slacks = c.in_ok-slacks.ensures.told;
+      slacks = c.in_ok-slacks.ensures.finding;
       passed = λ cases one waves known.
           (let numbers = length-map cases (λ (case : Case). case.number) in
           let count = ap (λ (xs : List ℕ). length xs) known.are_numbers in
@@ -63,12 +63,12 @@ loop-place-preserved g c =
           passed_more circuit cases one limits least c.set.new.self c.loop-place.self.sets.keys c.lowered.new.sets.keys place _ _
           c.in_ok-least.least c.of.result c.len-case.result here now c.set.ensures (omega (arith, case, count, numbers))
           (tells_now circuit ws one c.in_ok-slacks.slacks limits place _ c.of.result c.of.ensures known.are_limits here waves
-          c.in_ok-slacks.ensures.told)
+          c.in_ok-slacks.ensures.finding)
           c.in_ok-least.ensures.least (kept.passed cases one waves known));
       alike = λ cases one waves known are.
           alike_more circuit cases one limits are least c.set.new.self place _ _ c.in_ok-least.least c.loop-place.subject c.loop-place.slacks
           c.in_ok-slacks.slacks ws here now c.set.ensures (ap (λ (xs : List (Option Least)). length xs) c.set.ensures ∙ length-set least place c.in_ok-least.least)
-          (kept.alike cases one waves known are) c.in_ok-slacks.ensures.same waves c.in_ok-slacks.ensures.told
+          (kept.alike cases one waves known are) c.in_ok-slacks.ensures.same waves c.in_ok-slacks.ensures.finding
           c.of.result c.of.ensures
           (lowered_breaks c.loop-place.self.sets.keys c.lowered.new.sets.keys _ c.in_ok-least.least c.of.result c.len-case.result c.in_ok-least.ensures.least)
           (lowered_free c.loop-place.self.sets.keys c.lowered.new.sets.keys _ c.in_ok-least.least c.of.result c.len-case.result c.in_ok-least.ensures.least);

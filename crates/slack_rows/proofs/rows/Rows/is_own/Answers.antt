@@ -9,7 +9,7 @@ returns-then-is_broken-clause-is c = λ circuit cases q known same at sure.
     let broken : breaks (least_at c.args.self.now.least c.args.place 0) ≡ true = cc in
     let own = own_broken circuit cases c.args.self.now.parameters c.args.self.now.least c.args.self.now.cases c.args.self.now.sets.keys known
     c.args.place q at sure in
-    (λ i. (sym broken ∙ own) i && not (c.is_reported.ensures.told circuit cases q known same at sure i))
+    (λ i. (sym broken ∙ own) i && not (c.is_reported.ensures.finding circuit cases q known same at sure i))
 
 pub returns-else-is_broken-clause-is : goal.returns-else-is_broken-clause-is
 returns-else-is_broken-clause-is c = λ circuit cases q known same at sure.

@@ -1,7 +1,7 @@
 use Rattle.std.proofs.Common.{ap, arith}
 use Rattle.std.proofs.lemmas.Int.{ints}
 use Rattle.slack_rows.specs.declared.slack.Slack.TheVariants.{Ticks}
-use Rattle.slack_rows.proofs.width.told.Goals as goal
+use Rattle.slack_rows.proofs.width.finding.Goals as goal
 
 pub returns-clause-slack : goal.returns-clause-slack
 returns-clause-slack c =
