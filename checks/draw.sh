@@ -113,7 +113,12 @@ runs() {
     printf 'SCALD 2;\nCLOCK 2048 x 2;\nDRAWING RUNS;\n'
     printf '  FOR I = 1 TO %d DO\n    c : MIN_PULSE_CHK ("D .S%s"<2 * I>);\n  END;\nEND;\n' "$1" "$units"
 }
-for words in 'rows 500 0' 'rows 8192 0' 'rows 8193 11' 'runs 32 0' 'runs 33 11'; do
+# and those of one net more, which has one
+more() {
+    runs "$1" | sed '$d'
+    printf '  w : MIN_PULSE_CHK ("E");\nEND;\n'
+}
+for words in 'rows 500 0' 'rows 8192 0' 'rows 8193 11' 'runs 32 0' 'more 32 11'; do
     # shellcheck disable=SC2086
     set -- $words
     trying "$1: $2"

@@ -12,6 +12,8 @@ pub mod Cutting
 pub mod Showing
 pub mod Shading
 mod ExamplesPictures
+mod ExamplesMarks
+mod ExamplesRows
 pub mod Seeking
 pub mod Replying
 pub mod OneAnswer
