@@ -1,0 +1,4 @@
+mod Examples
+pub mod Meaning
+pub mod Spans
+pub mod Supposed

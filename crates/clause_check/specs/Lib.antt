@@ -1,0 +1,4 @@
+pub mod Clauses
+pub mod Meaning
+pub mod Propagation
+pub mod Rows
