@@ -1,0 +1,10 @@
+pub mod Constraint
+pub mod Named
+pub mod Break
+pub mod Cone
+pub mod Part
+pub mod Narrowed
+pub mod Building
+pub mod Leaf
+pub mod Tree
+pub mod Laws
