@@ -23,7 +23,7 @@ pub struct Trace {
 
 impl Trace {
     /// The pick at an instance; (0, 0) past the last.
-    pub(crate) fn pick(&self, k: u32) -> (u16, u16)
+    pub fn pick(&self, k: u32) -> (u16, u16)
         ensures { result ≡ pick_at self.now k }
     {
         match self.delays.get(k as usize) {
@@ -33,7 +33,7 @@ impl Trace {
     }
 
     /// The delays of the wires to the pins of an instance; none past the last.
-    pub(crate) fn wires(&self, k: u32) -> &[u16]
+    pub fn wires(&self, k: u32) -> &[u16]
         ensures { result.now ≡ wires_at self.now k }
     {
         match self.wires.get(k as usize) {
@@ -43,7 +43,7 @@ impl Trace {
     }
 
     /// The bits of a net; none past the last.
-    pub(crate) fn row(&self, net: u32) -> &[bool]
+    pub fn row(&self, net: u32) -> &[bool]
         ensures { result.now ≡ row_at self.now net }
     {
         match self.bits.get(net as usize) {

@@ -1,0 +1,16 @@
+pub mod Breaking
+pub mod Numbers
+pub mod Made
+pub mod Telling
+pub mod Seeking
+pub mod Ends
+pub mod Widths
+pub mod Settling
+pub mod Replying
+pub mod Refuting
+pub mod Greatest
+pub mod Shifting
+pub mod Examples
+pub mod ExamplesShown
+pub mod ExamplesCone
+pub mod ExamplesBreak

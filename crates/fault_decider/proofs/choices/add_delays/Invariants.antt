@@ -1,0 +1,9 @@
+use Rattle.std.proofs.Common.{◌≡◌, ◌++◌, flat_map}
+use Rattle.std.specs.List.{range_with_len}
+use Rattle.fixpoint_engine.specs.Settled.{marked_in}
+use Rattle.fault_decider.specs.Choices.{delay_of}
+use Rattle.fault_decider.proofs.choices.add_delays.Given as goal
+
+abbrev pub invariant-loop-k : goal.invariant-loop-k
+invariant-loop-k l =
+    l.out ≡ l.fn.out ++ flat_map (delay_of l.c l.trace (marked_in l.cone)) (range_with_len 0 l.k)

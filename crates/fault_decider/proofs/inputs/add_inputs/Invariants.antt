@@ -1,0 +1,8 @@
+use Rattle.std.proofs.Common.{◌≡◌, ◌++◌, flat_map, take}
+use Rattle.fixpoint_engine.specs.Settled.{marked_in}
+use Rattle.fault_decider.specs.Choices.{input_of_net}
+use Rattle.fault_decider.proofs.inputs.add_inputs.Given as goal
+
+abbrev pub invariant-loop-place : goal.invariant-loop-place
+invariant-loop-place l =
+    l.out ≡ l.fn.out ++ flat_map (input_of_net l.c l.values l.trace (marked_in l.cone)) (take l.place l.c.order)

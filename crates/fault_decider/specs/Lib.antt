@@ -1,0 +1,12 @@
+pub mod Words
+pub mod Outcome
+pub mod Cone
+pub mod Showing
+pub mod Verdict
+pub mod Choices
+pub mod Lines
+pub mod Promise
+pub mod Decided
+pub mod Reporting
+pub mod Latest
+pub mod Laws
