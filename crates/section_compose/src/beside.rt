@@ -2,6 +2,11 @@
 //! which stand only in the section that drives them. The answer and the status are the same
 //! whatever is said here.
 
+ghost use Rattle.std.specs.Prelude.{◌≡◌, ◌≢◌, ◌-◌, [], IfSome, Some, length, map, slice_get};
+ghost use Rattle.std.specs.List.{All};
+ghost use Rattle.section_compose.specs.Cut.{sections_of};
+ghost use Rattle.section_compose.specs.Pieces.{Lies, piece_of};
+
 use crate::cut::{Piece, sections_of};
 use crate::globals::{crosses, is_driven, is_driven_in_one, is_global, same_net};
 use crate::section::{Section, read_section};
@@ -27,7 +32,10 @@ enum Standing {
 }
 
 /// Where the sections of a text lie; nowhere if memory runs out, or the text is too long.
-pub(crate) fn pieces_of(alloc: Global, text: &[u8]) -> List<Piece> {
+pub(crate) fn pieces_of(alloc: Global, text: &[u8]) -> List<Piece>
+    ensures are { result ≢ [] → map (piece_of text.now) result ≡ sections_of text.now }
+    ensures within { All (Lies (length text.now)) result }
+{
     if u32::MAX as usize <= text.len() {
         return List::new(alloc);
     }
@@ -37,8 +45,13 @@ pub(crate) fn pieces_of(alloc: Global, text: &[u8]) -> List<Piece> {
     }
 }
 
-/// Where a section, counted from 1, lies in a text.
-pub fn piece_of_section(alloc: Global, text: &[u8], section: u32) -> Option<Piece> {
+/// Where a section, counted from 1, lies in a text; `None` if it has no such section, is too long,
+/// or memory runs out.
+pub fn piece_of_section(alloc: Global, text: &[u8], section: u32) -> Option<Piece>
+    ensures is { IfSome result (λ piece.
+        slice_get (sections_of text.now) (section - 1) ≡ Some (piece_of text.now piece)) }
+    ensures within { IfSome result (Lies (length text.now)) }
+{
     let pieces = pieces_of(alloc, text);
     pieces.get((section as usize).checked_sub(1)?).copied()
 }
