@@ -413,7 +413,8 @@ row 'a row of registers whose clock is passed on through late wires' explain 1 \
 row 'a pulse of what is unknown' explain 1 \
     'b1 : BUF [1:2] ("B") -> ("A");' 'b2 : BUF [1:3] ("A") -> ("B");' 'WIRE "B" 0:4;' 'w1 : MIN_PULSE_CHK {HIGH=2} ("A");' \
     -- '1. HIGH 2 of w1<0> (line 7), slack -1' \
-    '   1 wide, 1 - 2 = -1: it may change more than once: look at what drives it first' 'BROKEN 1'
+    '   1 wide, 1 - 2 = -1: it may change more than once: look at what drives it first' \
+    '   ask scald decide whether a run breaks HIGH 2 of w1<0>' 'BROKEN 1'
 
 # 10240 broken limits of one statement are one row, within 10 seconds and 64 MB of address space
 trying '10240 broken limits of one statement'
@@ -422,7 +423,8 @@ trying '10240 broken limits of one statement'
         '   data, last change:' '          50         IN<0> changes "IN .S1-4" line 4' \
         '          90    +40  D<0> changes  b<0> BUF [10:40] line 4' '   clock, earliest:' \
         '         100         CK rises   "CK .P2-3" line 6' \
-        '   may change until 100 - 20 = 80, changes at 90: 10 too late' '' 'BROKEN 10240'
+        '   may change until 100 - 20 = 80, changes at 90: 10 too late' \
+        '   ask scald decide whether a run breaks c#1<0:255> and 39 more' '' 'BROKEN 10240'
 } >"$work/want"
 printf '%s\n' 'SCALD 2;' 'CLOCK 8 x 50;' 'DRAWING ROW;' 'b : BUF [10:40] ("IN .S1-4"<0:255>) -> ("D"<0:255>);' \
     'FOR I = 1 TO 40 DO' 'c : SETUP_HOLD_CHK {SETUP=20, HOLD=5} ("CK .P2-3", "D"<0:255>);' 'END;' 'END;' >"$work/text"

@@ -101,6 +101,16 @@ rows 'explain worst=2' cut 0 \
     '         180    +30  B falls          b BUF [0:30] line 4' \
     '         190    +10  cut by C falls   g BUF [40:90, 5:10] line 5'
 
+# what decide can be asked stands last in the paragraph of a broken row, whether or not it has a number, and in no other
+rows explain loop 1 '1. SETUP 20 of c1<0> (line 5), slack none' '   ask scald decide whether a run breaks c1<0>' 'BROKEN 1'
+rows explain never 1 \
+    '   * the data may change at any tick: broken, whatever its ways come to' \
+    '   ask scald decide whether a run breaks c1<0>' \
+    'BROKEN 2'
+answered 'explain worst=2' late 1
+trying 'a row that is met'
+[ "$(grep -c '^   ask scald decide' "$work/out")" -eq 1 ] || failure 'explain worst=2 of late: not one question'
+
 # words
 rows 'slack worst=1' row1 0 'MET 2'
 rows 'explain worst=1' row1 0 '1. SETUP 20 of c1<0> (line 4), slack 30' 'MET 2'

@@ -1046,7 +1046,21 @@ class Writer:
                      "STABLE TO": "stable to"}[limit.word] + f" {edge}"
         return [f"   {front}, changes at {data}: {self.verdict(told.number, 'late' if late else 'early')}"]
 
+    def question(self, row, has_cases):
+        """What `decide` can be asked of a row that is broken."""
+        limit = row[0]
+        if not is_broken(limit.least):
+            return []
+        case = f" of case {','.join(map(str, limit.cases))}" if has_cases else ""
+        front = {"HIGH": f"{limit.label} of ", "LOW": f"{limit.label} of ", "GATE": "the mark of ",
+                 "STABLE": "the assertion of ", "ASSERT": "the assertion of "}.get(limit.word.split()[0], "")
+        return [f"   ask scald decide whether a run{case} breaks {front}{names_of(row)}"]
+
     def paragraph(self, number, row, has_cases):
+        return self.account(number, row, has_cases) + self.question(row, has_cases)
+
+    def account(self, number, row, has_cases):
+        """The paragraph without what stands last if the row is broken."""
         limit = row[0]
         told = limit.least
         head = f"{number}. {limit.label} of {names_of(row)} (line {self.line(limit)}), slack {shown(told)}"

@@ -1,4 +1,5 @@
-//! The paragraph of a row: the paths, the sum, the launch, and what is counted twice.
+//! The paragraph of a row: the paths, the sum, the launch, what is counted twice, and if it is
+//! broken what `decide` can be asked.
 
 use crate::groups::Row;
 use crate::page::{Page, number_of};
@@ -254,6 +255,36 @@ fn put_quiet(page: &mut Page, corner: Corner, ticks: i64) {
     });
 }
 
+/// Puts what of the drawing a row is about as `decide` takes it: a checker with all its limits,
+/// but each width of a pulse alone.
+fn put_constraint(page: &mut Page, sheet: Sheet, row: &Row) {
+    match row.first.parameter.word {
+        Word::Setup | Word::Hold => {}
+        Word::High | Word::Low => {
+            put_limit(page, row.first.parameter);
+            page.put(b" of ");
+        }
+        Word::Gate | Word::Before | Word::After => page.put(b"the mark of "),
+        Word::Assert | Word::From | Word::To => page.put(b"the assertion of "),
+    }
+    put_names(page, sheet, row.limits.as_slice());
+}
+
+/// Puts what `decide` can be asked of a broken row. Each bit has a fault there in each of the cases.
+fn put_question(page: &mut Page, sheet: Sheet, row: &Row) {
+    if !row.first.least.finding.slack.is_broken() {
+        return;
+    }
+    page.put(b"   ask scald decide whether a run");
+    if sheet.has_cases() {
+        page.put(b" of case ");
+        put_cases(page, sheet, row.first.least);
+    }
+    page.put(b" breaks ");
+    put_constraint(page, sheet, row);
+    page.put(b"\n");
+}
+
 /// Puts the paragraph of a row.
 pub fn put_paragraph(page: &mut Page, sheet: Sheet, drawing: &Drawing, number: usize, row: &Row) {
     let of = row.first;
@@ -278,4 +309,5 @@ pub fn put_paragraph(page: &mut Page, sheet: Sheet, drawing: &Drawing, number: u
         (_, Some(data), _) => put_paths(page, sheet, drawing, of, data),
         _ => {}
     }
+    put_question(page, sheet, row);
 }
