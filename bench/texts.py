@@ -26,6 +26,29 @@ def datapath(sections):
     return drawing(lines, header=["WIRE 0:2;"])
 
 
+def late_paths(sections):
+    """A datapath of eight bits in which six sections have a path that is late by up to 14 ticks: 48 faults."""
+    lines = []
+    for i in range(1, sections + 1):
+        before = "Q0 .S4-3" if i == 1 else f"Q{i - 1}"
+        longest, setup = (200, 200) if i % (sections // 6) == 0 and i <= sections // 6 * 6 else (60, 20)
+        lines.append(f'g{i} : CHG [20:{longest}] ("{before}"<0:7>) -> ("D{i}"<0:7>);')
+        lines.append(f'c{i} : SETUP_HOLD_CHK {{SETUP={setup}, HOLD=5}} ("CK .P2-3", "D{i}"<0:7>);')
+        lines.append(f'r{i} : REG [5:10] ("CK .P2-3", "D{i}"<0:7>) -> ("Q{i}"<0:7>);')
+    return drawing(lines, header=["WIRE 0:2;"])
+
+
+def clock_buffer(stages):
+    """Registers in a row behind one clock buffer, whose spread counts twice at the checkers of four of them."""
+    lines = ['t : BUF [20:40] ("CK .P2-3") -> ("CT");']
+    for i in range(1, stages + 1):
+        before = "Q0 .S1-4" if i == 1 else f"Q{i - 1}"
+        lines.append(f'r{i} : REG [5:10] ("CT", "{before}") -> ("Q{i}");')
+        if i % (stages // 4) == 0:
+            lines.append(f'c{i} : SETUP_HOLD_CHK {{SETUP=10, HOLD=3}} ("CT", "Q{i}");')
+    return drawing(lines)
+
+
 SLICE = """MACRO SLICE {SIZE=256} ("CK", "PH", "EN", "SEL", "A"<0:SIZE-1>) -> ("L"<0:SIZE-1>);
 gate : AND [4:8] ("CK" !H, "EN") -> ("GCK");
 sum : XOR [10:30] ("A", "L") -> ("X"<0:SIZE-1>);

@@ -161,7 +161,7 @@ offers() {
 LC_ALL=C
 export LC_ALL
 if ! passed_over bash; then
-    offers '--help;--quiet;--unproved;--version;-h;bench;chains;draw;explain;format;import;install;judge;margins;notes;run;sections;slack;upgrade;vcd;verify' scald ''
+    offers '--help;--quiet;--unproved;--version;-h;bench;chains;decide;draw;explain;format;import;install;judge;margins;notes;run;sections;slack;upgrade;vcd;verify' scald ''
     offers 'vcd;verify' scald v
     offers '--unproved' scald --u
     offers 'format' scald --quiet f
@@ -188,7 +188,7 @@ if ! passed_over zsh; then
     warned 'zsh warns'
     # a line that is typed, and what is offered after it
     cat >"$work/rows" <<'END'
-scald |bench;chains;draw;explain;format;import;install;judge;margins;notes;run;sections;slack;upgrade;vcd;verify
+scald |bench;chains;decide;draw;explain;format;import;install;judge;margins;notes;run;sections;slack;upgrade;vcd;verify
 scald v|vcd;verify
 scald --u|--unproved
 scald --quiet f|format

@@ -175,6 +175,7 @@ forms='usage:
     scald margins <DRAWING                             by how much more each checker may ask for
     scald chains <DRAWING                              where each fault comes from
     scald sections <DRAWINGS                           verify of drawings with a line ===== between them, each by itself and joined
+    scald decide [effort=N] [trace=I] <DRAWING         each fault shown by a run, or refuted; the run of the I-th as a trace
     scald run T SEED [case=K] <DRAWING                 a run of T ticks that a seed draws, 1 to 4096, as a trace
     scald vcd T SEED [case=K] [tick=1ns] <DRAWING      the same run as a value change dump, for a wave viewer
     scald judge F <TRACE-AND-DRAWING                   whether the trace is a run, and what breaks in it from tick F on
@@ -286,6 +287,17 @@ none "'' cannot come after 'sections'" sections ''
 none "'3' cannot come after 'sections'" sections 3
 none "unknown command 'Sections': is sections meant?" Sections
 none "unknown command 'section': is sections meant?" section
+none "'decide' cannot come after 'decide'" decide decide
+none "'faults' cannot come after 'decide'" decide faults
+none "'' cannot come after 'decide'" decide ''
+none "'effort=0' cannot come after 'decide': N is 1 to 1000, without zeros in front" decide effort=0
+none "'effort=1001' cannot come after 'decide': N is 1 to 1000, without zeros in front" decide effort=1001
+none "'trace=01' cannot come after 'decide': I is 1 to 4294967295, without zeros in front" decide trace=01
+none "'trace=4294967296' cannot come after 'effort=2': I is 1 to 4294967295, without zeros in front" \
+    decide effort=2 trace=4294967296
+none "'effort=2' cannot come after 'trace=1'" decide trace=1 effort=2
+none "'x' cannot come after 'trace=1'" decide effort=2 trace=1 x
+none "unknown command 'Decide': is decide meant?" Decide
 none "a word is missing after 'run'" run
 none "a word is missing after '6'" run 6
 none "a word is missing after 'judge'" judge

@@ -8,9 +8,9 @@ use scald_base::{Bytes, Words};
 use std::alloc::Global;
 
 /// The words that a form begins with.
-const COMMANDS: [&[u8]; 15] = [
+const COMMANDS: [&[u8]; 16] = [
     b"verify", b"notes", b"format", b"upgrade", b"slack", b"explain", b"margins", b"chains",
-    SECTIONS, b"run", b"vcd", b"judge", b"draw", b"import", b"bench",
+    SECTIONS, b"decide", b"run", b"vcd", b"judge", b"draw", b"import", b"bench",
 ];
 
 const SECTIONS: &[u8] = b"sections";
@@ -29,10 +29,12 @@ enum Next {
 }
 
 /// The numbers that stand after a word.
-const NUMBERED: [(&[u8], Bounds); 3] = [
+const NUMBERED: [(&[u8], Bounds); 5] = [
     (b"rounds=", Bounds(b"N", 1, 10_000_000)),
     (b"worst=", Bounds(b"N", 1, 65_536)),
     (CASE, Bounds(b"K", 1, 256)),
+    (b"effort=", Bounds(b"N", 1, 1000)),
+    (b"trace=", Bounds(b"I", 1, 4_294_967_295)),
 ];
 
 /// The front of the word for a case.
@@ -44,7 +46,7 @@ const TICK: &[u8] = b"tick=";
 const SEEDS: Bounds = Bounds(b"SEED", 0, u64::MAX);
 
 /// What a form goes on with, by its command and how many words stand after that.
-const FORMS: [(&[u8], usize, Next); 18] = [
+const FORMS: [(&[u8], usize, Next); 20] = [
     (
         b"verify",
         0,
@@ -55,6 +57,8 @@ const FORMS: [(&[u8], usize, Next); 18] = [
     (b"slack", 1, Next::Word(&[b"rounds=N"])),
     (b"explain", 0, Next::Word(&[b"worst=N", b"rounds=N"])),
     (b"explain", 1, Next::Word(&[b"rounds=N"])),
+    (b"decide", 0, Next::Word(&[b"effort=N", b"trace=I"])),
+    (b"decide", 1, Next::Word(&[b"trace=I"])),
     (b"run", 0, Next::Number(Bounds(b"T", 1, 4096))),
     (b"run", 1, Next::Number(SEEDS)),
     (b"run", 2, Next::Word(&[b"case=K"])),

@@ -11,6 +11,9 @@ use Rattle.margin_report.specs.Answer.{margins}
 use Rattle.fault_chain.specs.Answer.{chains}
 use Rattle.slack_report.specs.Answer.{slack_program}
 use Rattle.slack_report.specs.Promise.{NeverBreaksIfMet}
+use Rattle.fault_decider.specs.Decided.{decider, promised_of}
+use Rattle.fault_decider.specs.Outcome.{status_of as decide_status}
+use Rattle.fault_decider.specs.declared.outcome.DecideOutcome.{DecideOutcome}
 use Rattle.section_compose.specs.Answer.{composer}
 use Rattle.section_compose.specs.Promise.{IsPromised as IsPromisedJoined}
 use Rattle.section_compose.specs.declared.outcome.SectionsOutcome.{SectionsOutcome}
@@ -27,7 +30,7 @@ use Rattle.netlist_import.specs.Outcome.{status_of as import_status}
 use Rattle.scald.specs.declared.named.Answer.{Answer}
 use Rattle.scald.specs.declared.named.Answer.TheVariants as answer
 use Rattle.scald.specs.declared.named.Call.{Call}
-use Rattle.scald.specs.declared.named.Call.TheVariants.{Tool, Notes, Margins, Chains, Slacks, Sections, Simulator, Pictures, Importer}
+use Rattle.scald.specs.declared.named.Call.TheVariants.{Tool, Notes, Margins, Chains, Slacks, Sections, Decisions, Simulator, Pictures, Importer}
 
 -- that of the verifier if it names no other, or there is none
 abbrev pub call_of : List (List ℕ) → Call
@@ -39,18 +42,20 @@ call_of (first ∷ others) =
     else (if bytes_eq first (codes "slack") then Slacks
     else (if bytes_eq first (codes "explain") then Slacks
     else (if bytes_eq first (codes "sections") then Sections
+    else (if bytes_eq first (codes "decide") then Decisions
     else (if bytes_eq first (codes "run") then Simulator
     else (if bytes_eq first (codes "vcd") then Simulator
     else (if bytes_eq first (codes "judge") then Simulator
     else (if bytes_eq first (codes "draw") then Pictures
     else (if bytes_eq first (codes "import") then Importer
-    else Tool))))))))))
+    else Tool)))))))))))
 
 -- ---- the answer
 
 abbrev pub of_drawing : (Outcome → Type 0) → Answer → Type 0
 of_drawing Is (answer.Drawing o) = Is o
 of_drawing Is (answer.Sections o) = ⊥
+of_drawing Is (answer.Faults o) = ⊥
 of_drawing Is (answer.Run o) = ⊥
 of_drawing Is (answer.Picture o) = ⊥
 of_drawing Is (answer.Netlist o) = ⊥
@@ -58,13 +63,23 @@ of_drawing Is (answer.Netlist o) = ⊥
 abbrev pub of_sections : (SectionsOutcome → Type 0) → Answer → Type 0
 of_sections Is (answer.Drawing o) = ⊥
 of_sections Is (answer.Sections o) = Is o
+of_sections Is (answer.Faults o) = ⊥
 of_sections Is (answer.Run o) = ⊥
 of_sections Is (answer.Picture o) = ⊥
 of_sections Is (answer.Netlist o) = ⊥
 
+abbrev pub of_faults : (DecideOutcome → Type 0) → Answer → Type 0
+of_faults Is (answer.Drawing o) = ⊥
+of_faults Is (answer.Sections o) = ⊥
+of_faults Is (answer.Faults o) = Is o
+of_faults Is (answer.Run o) = ⊥
+of_faults Is (answer.Picture o) = ⊥
+of_faults Is (answer.Netlist o) = ⊥
+
 abbrev pub of_run : (TraceOutcome → Type 0) → Answer → Type 0
 of_run Is (answer.Drawing o) = ⊥
 of_run Is (answer.Sections o) = ⊥
+of_run Is (answer.Faults o) = ⊥
 of_run Is (answer.Run o) = Is o
 of_run Is (answer.Picture o) = ⊥
 of_run Is (answer.Netlist o) = ⊥
@@ -72,6 +87,7 @@ of_run Is (answer.Netlist o) = ⊥
 abbrev pub of_netlist : (ImportOutcome → Type 0) → Answer → Type 0
 of_netlist Is (answer.Drawing o) = ⊥
 of_netlist Is (answer.Sections o) = ⊥
+of_netlist Is (answer.Faults o) = ⊥
 of_netlist Is (answer.Run o) = ⊥
 of_netlist Is (answer.Picture o) = ⊥
 of_netlist Is (answer.Netlist o) = Is o
@@ -79,6 +95,7 @@ of_netlist Is (answer.Netlist o) = Is o
 abbrev pub of_picture : (DrawOutcome → Type 0) → Answer → Type 0
 of_picture Is (answer.Drawing o) = ⊥
 of_picture Is (answer.Sections o) = ⊥
+of_picture Is (answer.Faults o) = ⊥
 of_picture Is (answer.Run o) = ⊥
 of_picture Is (answer.Picture o) = Is o
 of_picture Is (answer.Netlist o) = ⊥
@@ -98,6 +115,8 @@ IsAnswerOf Slacks words a d s s' k k' =
     of_drawing (λ o. IsCall slack_program NeverBreaksIfMet words o d s s' k k') a
 IsAnswerOf Sections words a d s s' k k' =
     of_sections (λ o. IsCall composer IsPromisedJoined words o d s s' k k') a
+IsAnswerOf Decisions words a d s s' k k' =
+    of_faults (λ o. IsCall decider promised_of words o d s s' k k') a
 IsAnswerOf Simulator words a d s s' k k' =
     of_run (λ o. IsCall simulator nothing_more words o d s s' k k') a
 IsAnswerOf Pictures words a d s s' k k' =
@@ -110,6 +129,7 @@ IsAnswerOf Importer words a d s s' k k' =
 abbrev pub status_of : Answer → ℕ
 status_of (answer.Drawing o) = outcome_status o
 status_of (answer.Sections o) = sections_status o
+status_of (answer.Faults o) = decide_status o
 status_of (answer.Run o) = trace_status o
 status_of (answer.Picture o) = draw_status o
 status_of (answer.Netlist o) = import_status o

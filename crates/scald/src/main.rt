@@ -4,11 +4,11 @@
 //! standard output has the answer alone.
 //!
 //! The first word names a main call: `notes` is `drawing_notes::notes_main`, `margins` is
-//! `margin_report::margin_main`, `chains` is `fault_chain::chain_main`, `slack` and `explain` are
-//! `slack_report::slack_main`, `sections` is `section_compose::sections_main`, `run`, `vcd` and
-//! `judge` are `trace_tool::trace_main`, `draw` is `draw_report::draw_main`, `import` is
-//! `netlist_import::import_main`, and all other words are those of `scald_tool::tool_main`. The
-//! contract of each says what its answer means.
+//! `margin_report::margin_main`, `chains` is `fault_chain::chain_main`, `slack` and `explain`
+//! are `slack_report::slack_main`, `sections` is `section_compose::sections_main`, `decide` is
+//! `fault_decider::decide_main`, `run`, `vcd` and `judge` are `trace_tool::trace_main`, `draw`
+//! is `draw_report::draw_main`, `import` is `netlist_import::import_main`, and all other words
+//! are those of `scald_tool::tool_main`. The contract of each says what its answer means.
 #![tactic(auto)]
 
 ghost use Rattle.std.specs.Prelude.{◌≡◌};

@@ -1,6 +1,7 @@
 //! The main call that the first word names.
 
 ghost use Rattle.std.specs.Prelude.{◌≡◌, ℕ, List, IfSome, true};
+ghost use Rattle.fault_decider.specs.Promise.{NeverBreaksLater};
 ghost use Rattle.program_call.specs.Call.{devices};
 ghost use Rattle.scald.specs.Named.{IsAnswerOf, call_of, status_of};
 ghost use Rattle.scald_tool.specs.Promise.{has_report};
@@ -10,6 +11,7 @@ ghost use Rattle.timing_analysis.specs.Promise.{FaultlessNeverBreaks, NeverBreak
 use draw_report::{DrawOutcome, draw_main, draw_status};
 use drawing_notes::notes_main;
 use fault_chain::chain_main;
+use fault_decider::{DecideOutcome, decide_main, decide_status};
 use margin_report::margin_main;
 use netlist_import::{ImportOutcome, import_main, import_status};
 use scald_base::{Outcome, Sink, Source, Words};
@@ -34,6 +36,8 @@ pub enum Call {
     Slacks,
     /// That of sections.
     Sections,
+    /// That of decisions.
+    Decisions,
     /// That of the simulator.
     Simulator,
     /// That of pictures.
@@ -42,11 +46,13 @@ pub enum Call {
     Importer,
 }
 
-/// What a main call answers: to one drawing, to several, of a run, by a picture, or to a netlist.
+/// What a main call answers: to one drawing, to several, of its faults, of a run, by a picture, or to
+/// a netlist.
 #[derive(Clone, Copy)]
 pub enum Answer {
     Drawing(Outcome),
     Sections(SectionsOutcome),
+    Faults(DecideOutcome),
     Run(TraceOutcome),
     Picture(DrawOutcome),
     Netlist(ImportOutcome),
@@ -60,6 +66,7 @@ impl Answer {
         match self {
             Answer::Drawing(outcome) => status(outcome),
             Answer::Sections(outcome) => sections_status(outcome),
+            Answer::Faults(outcome) => decide_status(outcome),
             Answer::Run(outcome) => trace_status(outcome),
             Answer::Picture(outcome) => draw_status(outcome),
             Answer::Netlist(outcome) => import_status(outcome),
@@ -87,6 +94,8 @@ fn call_of(words: &Words) -> Call
         Call::Slacks
     } else if first.as_slice() == b"sections".as_slice() {
         Call::Sections
+    } else if first.as_slice() == b"decide".as_slice() {
+        Call::Decisions
     } else if first.as_slice() == b"run".as_slice() {
         Call::Simulator
     } else if first.as_slice() == b"vcd".as_slice() {
@@ -126,6 +135,10 @@ pub fn answer_to<S: Source, K: Sink>(
     ensures met { IfSome (S.left source.old) (λ text. call_of words.now ≡ Call.Slacks →
         result ≡ Answer.Drawing Outcome.Clean → NeverBreaks text) }
 
+    // The same of `decide` from a later tick on, if every fault is refuted.
+    ensures decided { IfSome (S.left source.old) (λ text. call_of words.now ≡ Call.Decisions →
+        result ≡ Answer.Faults DecideOutcome.Settled → NeverBreaksLater text) }
+
     // The same of the whole that sections make.
     ensures joined { IfSome (S.left source.old) (λ text. call_of words.now ≡ Call.Sections →
         result ≡ Answer.Sections SectionsOutcome.Clean → NeverBreaksJoined text) }
@@ -137,6 +150,7 @@ pub fn answer_to<S: Source, K: Sink>(
         Call::Chains => Answer::Drawing(chain_main(alloc, words, source, sink)),
         Call::Slacks => Answer::Drawing(slack_main(alloc, words, source, sink)),
         Call::Sections => Answer::Sections(sections_main(alloc, words, source, sink)),
+        Call::Decisions => Answer::Faults(decide_main(alloc, words, source, sink)),
         Call::Simulator => Answer::Run(trace_main(alloc, words, source, sink)),
         Call::Pictures => Answer::Picture(draw_main(alloc, words, source, sink)),
         Call::Importer => Answer::Netlist(import_main(alloc, words, source, sink)),

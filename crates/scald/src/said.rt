@@ -9,6 +9,7 @@ use diagnostics::{
     sets_limit,
 };
 use draw_report::DrawOutcome;
+use fault_decider::DecideOutcome;
 use netlist_import::ImportOutcome;
 use scald_base::{CallEnd, Outcome, Refusal, Words};
 use scald_tool::Omissions;
@@ -26,6 +27,7 @@ const FORMS: &str = "usage:
     scald margins <DRAWING                             by how much more each checker may ask for
     scald chains <DRAWING                              where each fault comes from
     scald sections <DRAWINGS                           verify of drawings with a line ===== between them, each by itself and joined
+    scald decide [effort=N] [trace=I] <DRAWING         each fault shown by a run, or refuted; the run of the I-th as a trace
     scald run T SEED [case=K] <DRAWING                 a run of T ticks that a seed draws, 1 to 4096, as a trace
     scald vcd T SEED [case=K] [tick=1ns] <DRAWING      the same run as a value change dump, for a wave viewer
     scald judge F <TRACE-AND-DRAWING                   whether the trace is a run, and what breaks in it from tick F on
@@ -65,6 +67,9 @@ const TOO_MUCH: &str = "scald: there are more than 8192 rows or 262144 runs to d
 
 /// What is said if more bytes came than a netlist may have.
 const TOO_LONG_NETLIST: &str = "scald: the netlist has more than 67108864 bytes";
+
+/// What is said if there is no run of a fault to write.
+const NO_RUN: &str = "scald: there is no such fault, or no run that shows it was found";
 
 /// What is said if there are too few or too many sections.
 const BAD_COUNT: &str = "scald: there should be 2 to 64 sections, with a line ===== between them";
@@ -192,6 +197,22 @@ fn say_picture(
     }
 }
 
+/// Says why there is no answer of the faults of a drawing, if there is none.
+fn say_faults(
+    rt: &(impl Eprint + AllocGlobal),
+    words: &Words,
+    text: Option<&[u8]>,
+    outcome: &DecideOutcome,
+) {
+    match outcome {
+        DecideOutcome::Ended(end) => say_end(rt, words, *end, TOO_LONG),
+        DecideOutcome::Refused(refusal) => say_refusal(rt, text, *refusal),
+        DecideOutcome::Unsettled { .. } => say(rt, UNSETTLED),
+        DecideOutcome::NoRun => say(rt, NO_RUN),
+        DecideOutcome::Settled | DecideOutcome::Faulty | DecideOutcome::Done => {}
+    }
+}
+
 /// Says why there is no answer, if there is none: `text` is what was read, if that was kept.
 pub fn say_answer(
     rt: &(impl Eprint + AllocGlobal),
@@ -202,6 +223,7 @@ pub fn say_answer(
     match answer {
         Answer::Drawing(outcome) => say_outcome(rt, words, text, outcome),
         Answer::Sections(outcome) => say_sections(rt, words, text, outcome),
+        Answer::Faults(outcome) => say_faults(rt, words, text, outcome),
         Answer::Run(outcome) => say_trace(rt, words, text, outcome),
         Answer::Picture(outcome) => say_picture(rt, words, text, outcome),
         Answer::Netlist(outcome) => say_netlist(rt, words, outcome),
