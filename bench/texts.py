@@ -233,6 +233,49 @@ def netlist(cells):
     return re.sub(r"\[\s+(\d+)\s+\]", r"[ \1 ]", text)
 
 
+def one_module(cells):
+    """The JSON of a netlist of one module with these cells."""
+    return json.dumps({"modules": {"top": {"ports": {}, "cells": cells}}})
+
+
+def netlist_kinds(cells):
+    """A netlist of so many cells, each of a kind of its own: every other one by its type, and else by its parameters."""
+    return one_module(
+        {
+            f"u{i}": {
+                "type": f"T{i}" if i % 2 else "T",
+                "parameters": {"INIT": f"{i:016b}"},
+                "port_directions": {"A": "input", "Y": "output"},
+                "connections": {"A": [i + 2], "Y": [i + 3]},
+            }
+            for i in range(cells)
+        }
+    )
+
+
+def netlist_ports(ports):
+    """A netlist of one cell with so many ports, whose directions stand in another order than its connections."""
+    return one_module(
+        {
+            "u": {
+                "type": "T",
+                "port_directions": {f"P{i}": "input" for i in reversed(range(ports))},
+                "connections": {f"P{i}": [i + 2] for i in range(ports)},
+            }
+        }
+    )
+
+
+def netlist_box(ports):
+    """The same with a cell whose type is a black box."""
+    box = {
+        "attributes": {"blackbox": 1},
+        "ports": {f"P{i}": {"direction": "input", "bits": [i + 2]} for i in range(ports)},
+    }
+    cell = {"type": "T", "connections": {f"P{i}": [i + 2] for i in reversed(range(ports))}}
+    return json.dumps({"modules": {"T": box, "top": {"ports": {}, "cells": {"u": cell}}}})
+
+
 def imported(cells):
     """What import makes of that netlist, with the macros of examples/yosys and a drawing."""
     lines = ['MACRO top ("clk");']

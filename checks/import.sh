@@ -98,6 +98,18 @@ gives 'kinds of one type' cells "$(module "$(port a input 2)" \
      "p": {"type": "T", "parameters": {"N": "1"}, "port_directions": {"A": "input"}, "connections": {"A": [2]}}')" \
     'MACRO T ("A") -> ("Y");' 'END;' 'MACRO T_0 ("A"<1:0>) -> ("Y");' 'END;' 'MACRO T_1 ("A");' 'END;'
 
+# --- more ports than are compared one by one
+gives 'ten ports of a kind' cells "$(module '' '"u": {"type": "T",
+    "port_directions": {"J": "input", "I": "input", "H": "input", "G": "input", "F": "input", "E": "input", "D": "output", "C": "input", "B": "input", "A": "input"},
+    "connections": {"A": [2], "B": [3], "C": [4], "D": [5], "E": [6], "F": [7], "G": [8], "H": [9], "I": [10], "J": [11]}}')" \
+    'MACRO T ("A", "B", "C", "E", "F", "G", "H", "I", "J") -> ("D");' 'END;'
+ten='"A": {"direction": "input", "bits": [2]}, "B": {"direction": "input", "bits": [3]}, "C": {"direction": "input", "bits": [4]}, "D": {"direction": "input", "bits": [5]}, "E": {"direction": "input", "bits": [6]}, "F": {"direction": "input", "bits": [7]}, "G": {"direction": "input", "bits": [8]}, "H": {"direction": "input", "bits": [9]}, "I": {"direction": "input", "bits": [10]}, "J": {"direction": "input", "bits": [11]}'
+gives 'ten ports of a module' '' '{"modules": {"T": {"ports": {'"$ten"'}, "cells": {}},
+    "top": {"ports": {'"$(port p input '2, 3, 4, 5, 6, 7, 8, 9, 10, 11')"'},
+        "cells": {"u": {"type": "T", "connections": {"J": [11], "I": [10], "H": [9], "G": [8], "F": [7], "E": [6], "D": [5], "C": [4], "B": [3], "A": [2]}}}}}}' \
+    'MACRO T ("A", "B", "C", "D", "E", "F", "G", "H", "I", "J");' 'END;' 'MACRO top ("p"<9:0>);' \
+    '  u : T ("p"<0>, "p"<1>, "p"<2>, "p"<3>, "p"<4>, "p"<5>, "p"<6>, "p"<7>, "p"<8>, "p"<9>);' 'END;'
+
 # --- which name a bit has
 gives 'the first net that is not hidden' '' "$(module '' "$(cell u 2 3), $(cell v 4 5)" \
     "$(net '$a' 1 '2, 3'), $(net x.y 0 3), $(net z 0 '3, 4'), $(net '$b' 1 '5, 4')")" \
@@ -159,6 +171,15 @@ refuses 'no port of the module' 'REFUSED 34 UnlikeCells 2:77' '{"modules": {"ff"
     "top": {"ports": {}, "cells": {"u": {"type": "ff", "connections": {"e": [2]}}}}}}'
 refuses 'another width' 'REFUSED 34 UnlikeCells 2:77' '{"modules": {"ff": {"ports": {"d": {"direction": "input", "bits": [2]}}, "cells": {}},
     "top": {"ports": {}, "cells": {"u": {"type": "ff", "connections": {"d": [2, 3]}}}}}}'
+refuses 'another width of ten ports' 'REFUSED 34 UnlikeCells 3:6' '{"modules": {"T": {"ports": {'"$ten"'}, "cells": {}},
+    "top": {"ports": {}, "cells": {"u": {"type": "T", "connections": {"I": [2],
+"J": [2, 3]}}}}}}'
+refuses 'none of ten ports' 'REFUSED 34 UnlikeCells 3:6' '{"modules": {"T": {"ports": {'"$ten"'}, "cells": {}},
+    "top": {"ports": {}, "cells": {"u": {"type": "T", "connections": {"I": [2],
+"K": [2]}}}}}}'
+refuses 'no direction of the last of ten' 'REFUSED 32 BadDirection 3:6' '{"modules": {"m": {"ports": {}, "cells": {"u": {"type": "T",
+    "port_directions": {"I": "input", "H": "input", "G": "input", "F": "input", "E": "input", "D": "input", "C": "input", "B": "input", "A": "input"}, "connections": {"A": [2], "B": [3], "C": [4], "D": [5], "E": [6], "F": [7], "G": [8], "H": [9], "I": [10],
+"J": [2]}}}}}}'
 refuses 'the first of several' 'REFUSED 32 BadDirection 1:49' "$(module "$(port y inout 4294967296)" '"u": 3')"
 
 # --- words, and texts that are too long

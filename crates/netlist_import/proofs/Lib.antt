@@ -8,6 +8,8 @@ pub mod Counts
 pub mod New
 pub mod Tried
 pub mod Bracketed
+pub mod KeptPorts
+pub mod Starts
 pub mod Joining
 pub mod Named
 pub mod Claims

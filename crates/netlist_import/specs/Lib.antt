@@ -4,11 +4,14 @@ pub mod Offset
 pub mod Bits
 pub mod Netlist
 pub mod Fault
+pub mod Index
 pub mod Types
 pub mod Read
 pub mod Words
 pub mod Fresh
 pub mod Kinds
+pub mod KindPorts
+pub mod Sorts
 pub mod Shapes
 pub mod Nets
 pub mod Body

@@ -4,14 +4,11 @@ use Rattle.std.specs.List.{list_any}
 use Rattle.std.specs.Map.{lookup}
 use Rattle.std.specs.Str.{bytes_eq}
 use Rattle.std.specs.Borrow.{Bor}
+use Rattle.netlist_import.specs.Index.{is_key}
 use Rattle.netlist_import.specs.Netlist.{place_named}
 use Rattle.netlist_import.specs.Fault.{is_used}
 use Rattle.netlist_import.specs.declared.netlist.Cell.{Cell}
 use Rattle.netlist_import.specs.declared.netlist.Module.{Module}
-
--- two names are one
-abbrev pub is_key : Bor (List ℕ) → Bor (List ℕ) → Bool
-is_key name key = bytes_eq name.now key.now
 
 -- a cell is of this type
 abbrev pub is_of : List ℕ → Cell → Bool

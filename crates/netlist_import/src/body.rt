@@ -1,8 +1,6 @@
 //! What stands in a macro.
 
 ghost use Rattle.std.specs.Prelude.{◌≡◌, ◌-◌, ◌^◌, ◌<◌, ◌++◌, ◌==◌, [], IfOk, OnOk, codes, length, map, not, option_map, slice_get};
-ghost use Rattle.std.specs.List.{find};
-ghost use Rattle.std.specs.Str.{bytes_eq};
 ghost use Rattle.drawing_tree.specs.Canonical.{bracketed_if_some, connection_text, inputs_text, macro_lines, outputs_text, statements_lines};
 ghost use Rattle.netlist_import.specs.Body as spec;
 ghost use Rattle.netlist_import.specs.Fresh.{names_after};
@@ -12,43 +10,21 @@ ghost use Rattle.netlist_import.specs.declared.netlist.Direction.TheVariants.{In
 use crate::head::add_head;
 use crate::kinds::{Targets, is_same_way};
 use crate::names::Names;
-use crate::netlist::{Bit, Cell, Direction, Module, Port};
+use crate::netlist::{Cell, Direction, Module};
 use crate::nets::{Nets, Wires};
 use crate::outlets::{add_buffers, outlets_of};
 use crate::shapes::{Formal, Shape};
 use crate::text::{add_separator, close_outputs};
+use crate::wiring::Wiring;
 use crate::words::{counted, word_of};
-use scald_base::{Bytes, NoMemory, same_bytes};
+use scald_base::{Bytes, NoMemory};
 use std::alloc::Global;
 
-/// The first connection of a name.
-fn connection_named<'c>(connections: &'c [Port], name: &[u8]) -> Option<&'c Port>
-    ensures { option_map (λ p. p.now) result
-        ≡ find (λ p. bytes_eq p.name name.now) connections.now }
-{
-    for connection in connections {
-        if same_bytes(connection.name.as_slice(), name) {
-            return Some(connection);
-        }
-    }
-    None
-}
-
-/// The bits that a cell has at a port, if it has some.
-fn bits_at<'c>(cell: &'c Cell, name: &[u8]) -> Option<&'c [Bit]>
-    ensures { option_map (λ bits. bits.now) result ≡ spec.bits_at cell.now name.now }
-{
-    match connection_named(cell.connections.as_slice(), name) {
-        Some(connection) if !connection.bits.is_empty() => Some(connection.bits.as_slice()),
-        _ => None,
-    }
-}
-
 /// What stands for the bits of a cell at a port of its macro.
-fn wires_at(alloc: Global, nets: &mut Nets, cell: &Cell, port: &Formal) -> Result<Wires, NoMemory>
+fn wires_at(alloc: Global, nets: &mut Nets, cell: &Wiring, port: &Formal) -> Result<Wires, NoMemory>
     ensures { IfOk result (λ wires. (wires, nets.new) ≡ spec.wires_at cell.now port.now nets.old) }
 {
-    match bits_at(cell, port.name.as_slice()) {
+    match cell.bits_at(port.name.as_slice()) {
         Some(bits) => nets.wires(alloc, bits),
         None => nets.left_out(alloc, port.width),
     }
@@ -59,7 +35,7 @@ fn add_port(
     alloc: Global,
     out: &mut Bytes,
     nets: &mut Nets,
-    cell: &Cell,
+    cell: &Wiring,
     port: &Formal,
 ) -> Result<(), NoMemory>
     ensures text { OnOk result (out.new ≡ out.old
@@ -78,7 +54,7 @@ fn add_ports(
     alloc: Global,
     out: &mut Bytes,
     nets: &mut Nets,
-    cell: &Cell,
+    cell: &Wiring,
     ports: &[Formal],
     direction: Direction,
     before: &[u8],
@@ -152,7 +128,7 @@ fn add_inputs(
     alloc: Global,
     out: &mut Bytes,
     nets: &mut Nets,
-    cell: &Cell,
+    cell: &Wiring,
     ports: &[Formal],
 ) -> Result<(), NoMemory>
     ensures text { OnOk result (out.new ≡ out.old ++ inputs_text connection_text
@@ -170,7 +146,7 @@ fn add_outputs(
     alloc: Global,
     out: &mut Bytes,
     nets: &mut Nets,
-    cell: &Cell,
+    cell: &Wiring,
     ports: &[Formal],
 ) -> Result<(), NoMemory>
     ensures text { OnOk result (out.new ≡ out.old ++ outputs_text connection_text
@@ -188,7 +164,7 @@ fn add_cell(
     alloc: Global,
     out: &mut Bytes,
     nets: &mut Nets,
-    cell: &Cell,
+    cell: &Wiring,
     label: &[u8],
     shape: &Shape,
 ) -> Result<(), NoMemory>
@@ -221,7 +197,10 @@ fn add_target(
         nets.old).nets) }
 {
     match shape {
-        Some(shape) => add_cell(alloc, out, nets, cell, label, shape),
+        Some(shape) => {
+            let cell = Wiring::of(alloc, cell);
+            add_cell(alloc, out, nets, &cell, label, shape)
+        }
         None => Ok(()),
     }
 }

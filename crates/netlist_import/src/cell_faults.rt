@@ -1,17 +1,20 @@
 //! The first fault of the cells of a module. Each function gives that of one part.
 
-ghost use Rattle.std.specs.Prelude.{◌≡◌, ◌==◌, ◌||◌, None, codes, is_some, map, option_map};
+ghost use Rattle.std.specs.Prelude.{◌≡◌, ◌==◌, ◌||◌, None, codes, map, option_map};
 ghost use Rattle.std.specs.List.{list_any};
 ghost use Rattle.netlist_import.specs.Fault as spec;
-ghost use Rattle.netlist_import.specs.Netlist.{directions_given, members_in, text_under};
+ghost use Rattle.netlist_import.specs.Netlist.{members_in, text_under};
 ghost use Rattle.netlist_import.specs.Placed.{field, member_of, placed_of};
 
 use crate::fault::{FaultKind, Found, earlier, fault_at};
+use crate::index::Index;
+use crate::module::directions_of;
 use crate::netlist::Port;
 use crate::port_faults::{WIDEST, bits_fault, direction_fault, hidden_fault, object_fault};
 use crate::types::Types;
-use crate::value::{Json, Member, array_of, field_in, field_under, object_of, text_of};
+use crate::value::{Json, Member, array_of, field_in, field_of, object_of, text_of};
 use scald_base::same_bytes;
+use std::alloc::Global;
 
 /// Whether a connection of so many bits fits a port of so many: it may have none.
 fn is_width(width: usize, wanted: usize) -> bool
@@ -28,31 +31,41 @@ fn is_like(port: &Port, name: &[u8], width: usize) -> bool
 }
 
 /// Whether one of the ports has this name, and its width if there are bits.
-fn has_like(ports: &[Port], name: &[u8], width: usize) -> bool
+fn any_like(ports: &[Port], name: &[u8], width: usize) -> bool
     ensures { result ≡ list_any (spec.is_like name.now width) ports.now }
 {
     ports.iter().any(|port| is_like(port, name, width))
 }
 
-/// Whether a cell gives a direction to a connection of this name.
-#[tactic(auto, unfolding(crate::specs::Netlist::directions_given))]
-fn has_direction(cell: &Json, name: &[u8]) -> bool
-    ensures { result ≡ is_some (field name.now (directions_given (placed_of cell.now))) }
+/// The same, of ports that are looked up: mostly the first of the name is the one.
+#[tactic(auto, using(crate::proofs::Found::like_none, crate::proofs::Found::like_first))]
+fn has_like(ports: &Index<Port>, name: &[u8], width: usize) -> bool
+    ensures { result ≡ list_any (spec.is_like name.now width) ports.now }
 {
-    field_under(cell, b"port_directions", name).is_some()
+    let Some(port) = ports.find(name) else {
+        return false;
+    };
+    if is_width(width, port.bits.len()) {
+        return true;
+    }
+    any_like(ports.items(), name, width)
 }
 
 /// A connection of a cell, by its module's ports or else by its directions.
-fn connection_fault(ports: Option<&[Port]>, cell: &Json, member: &Member) -> Found
+fn connection_fault(
+    ports: Option<&Index<Port>>,
+    directions: &Index<Member>,
+    member: &Member,
+) -> Found
     ensures { result ≡ spec.connection_fault (option_map (λ ps. ps.now) ports.entry)
-        (directions_given (placed_of cell.now)) (member_of member.now) }
+        (map member_of directions.now) (member_of member.now) }
 {
     let value = &member.1;
     let name = member.0.as_bytes();
     let Some(values) = array_of(value) else {
         return fault_at(FaultKind::NoNetlist, value);
     };
-    if ports.is_none() && !has_direction(cell, name) {
+    if ports.is_none() && field_of(directions, name).is_none() {
         return fault_at(FaultKind::BadDirection, value);
     }
     if values.len() > WIDEST {
@@ -68,13 +81,16 @@ fn connection_fault(ports: Option<&[Port]>, cell: &Json, member: &Member) -> Fou
 
 /// The connections of a cell, one after another.
 #[tactic(auto, unfolding(crate::specs::Fault::each))]
-fn each_connection_fault(ports: Option<&[Port]>, cell: &Json, connections: &[Member]) -> Found
+fn each_connection_fault(
+    ports: Option<&Index<Port>>,
+    directions: &Index<Member>,
+    connections: &[Member],
+) -> Found
     ensures { result ≡ spec.each (spec.connection_fault (option_map (λ ps. ps.now) ports.entry)
-        (directions_given (placed_of cell.now)))
-        (map member_of connections.now) }
+        (map member_of directions.now)) (map member_of connections.now) }
 {
     for connection in connections {
-        let found = connection_fault(ports, cell, connection);
+        let found = connection_fault(ports, directions, connection);
         if found.is_some() {
             return found;
         }
@@ -83,7 +99,7 @@ fn each_connection_fault(ports: Option<&[Port]>, cell: &Json, connections: &[Mem
 }
 
 /// The connections of a cell.
-fn connections_fault(ports: Option<&[Port]>, cell: &Json) -> Found
+fn connections_fault(alloc: Global, ports: Option<&Index<Port>>, cell: &Json) -> Found
     ensures { result ≡ spec.connections_fault (option_map (λ ps. ps.now) ports.entry)
         (placed_of cell.now)
         (members_in (placed_of cell.now)) }
@@ -94,7 +110,7 @@ fn connections_fault(ports: Option<&[Port]>, cell: &Json) -> Found
     let Some(connections) = object_of(value) else {
         return fault_at(FaultKind::NoNetlist, value);
     };
-    each_connection_fault(ports, cell, connections)
+    each_connection_fault(ports, &directions_of(alloc, cell), connections)
 }
 
 /// The directions that a cell gives, one after another.
@@ -144,9 +160,13 @@ fn wires_fault(types: &Types, kind: &[u8], cell: &Json) -> Found
     ensures { result ≡ spec.wires_fault (spec.ports_named kind.now types.now) (placed_of cell.now)
         (members_in (placed_of cell.now)) }
 {
+    let alloc = types.alloc();
     match types.module_named(kind) {
-        Some(module) => connections_fault(Some(module.ports.as_slice()), cell),
-        None => earlier(directions_fault(cell), connections_fault(None, cell)),
+        Some(module) => {
+            let ports = Index::of(alloc, module.ports.as_slice());
+            connections_fault(alloc, Some(&ports), cell)
+        }
+        None => earlier(directions_fault(cell), connections_fault(alloc, None, cell)),
     }
 }
 

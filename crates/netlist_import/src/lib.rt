@@ -18,6 +18,7 @@ mod value;
 
 // from a value to a netlist
 mod bits;
+mod index;
 mod module;
 mod netlist;
 
@@ -34,6 +35,7 @@ mod names;
 mod words;
 
 // what is used
+mod kind_ports;
 mod kinds;
 mod shapes;
 
@@ -44,6 +46,7 @@ mod library;
 mod nets;
 mod outlets;
 mod text;
+mod wiring;
 
 // what holds of it
 mod laws;

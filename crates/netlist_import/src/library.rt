@@ -10,7 +10,7 @@ ghost use Rattle.netlist_import.specs.Words.{word_of};
 
 use crate::body::add_module;
 use crate::head::add_head;
-use crate::kinds::{Targets, all_targets};
+use crate::kinds::{Kinds, Targets, all_targets};
 use crate::names::Names;
 use crate::netlist::Module;
 use crate::shapes::{Formal, Shape, Shapes, shapes_of};
@@ -32,9 +32,9 @@ fn library_of(alloc: Global, modules: &[Module]) -> Result<Library, NoMemory>
     ensures targets { IfOk result (λ library. library.targets
         ≡ map (map (number_of_used modules.now)) (all_uses modules.now)) }
 {
-    let mut kinds = Vec::new(alloc);
+    let mut kinds = Kinds::new(alloc);
     let targets = all_targets(alloc, modules, &mut kinds)?;
-    let shapes = shapes_of(alloc, modules, kinds)?;
+    let shapes = shapes_of(alloc, modules, kinds.list())?;
     Ok(Library { shapes, targets })
 }
 

@@ -7,16 +7,17 @@ ghost use Rattle.netlist_import.specs.Placed.{field, member_of, placed_of};
 ghost use Rattle.netlist_import.specs.declared.netlist.Direction.TheVariants.{Input};
 
 use crate::bits::{bits_of, whole};
+use crate::index::{Index, or_none};
 use crate::netlist::{
     Bits, Cell, Cells, Direction, Module, NetName, NetNames, Netlist, Port, Ports,
 };
 use crate::spelled::spell;
-use crate::value::{Json, Member, field_in, field_under, number_of, object_of, text_of};
+use crate::value::{Json, Member, field_in, field_of, field_under, number_of, object_of, text_of};
 use scald_base::{Bytes, List, NoMemory, same_bytes};
 use std::alloc::Global;
 
 /// The members of the object under a name, if there is one.
-fn members_under<'v, 'a>(value: &'v Json<'a>, name: &[u8]) -> Option<&'v [Member<'a>]>
+fn object_under<'v, 'a>(value: &'v Json<'a>, name: &[u8]) -> Option<&'v [Member<'a>]>
     ensures { option_map (λ ms. map member_of ms.now) result
         ≡ object_in (field name.now (members_in (placed_of value.now))) }
 {
@@ -24,6 +25,14 @@ fn members_under<'v, 'a>(value: &'v Json<'a>, name: &[u8]) -> Option<&'v [Member
         Some(under) => object_of(under),
         None => None,
     }
+}
+
+/// The same, and no members if there is none.
+#[tactic(auto, using(crate::proofs::Found::members_found))]
+fn members_under<'v, 'a>(value: &'v Json<'a>, name: &[u8]) -> &'v [Member<'a>]
+    ensures { map member_of result.now ≡ members_under name.now (members_in (placed_of value.now)) }
+{
+    or_none(object_under(value, name))
 }
 
 fn direction_named(name: &[u8]) -> Option<Direction>
@@ -98,36 +107,47 @@ fn ports_under(alloc: Global, value: &Json) -> Result<Ports, NoMemory>
     ensures { IfOk result (λ ports. ports
         ≡ map port_of (members_under (codes "ports") (members_in (placed_of value.now)))) }
 {
-    match members_under(value, b"ports") {
-        Some(members) => ports_of(alloc, members),
-        None => Ok(List::new(alloc)),
-    }
+    ports_of(alloc, members_under(value, b"ports"))
 }
 
-/// A connection of a cell, by the directions that the cell gives.
+/// The directions that a cell gives, to be found by the names of its connections.
 #[tactic(auto, unfolding(crate::specs::Netlist::directions_given))]
-fn connection_of(alloc: Global, cell: &Json, member: &Member) -> Result<Port, NoMemory>
-    ensures { IfOk result (λ port. port ≡ connection_of
-        (directions_given (placed_of cell.now)) (member_of member.now)) }
+pub(crate) fn directions_of<'v, 'a>(alloc: Global, cell: &'v Json<'a>) -> Index<'v, Member<'a>>
+    ensures { map member_of result ≡ directions_given (placed_of cell.now) }
+{
+    Index::of(alloc, members_under(cell, b"port_directions"))
+}
+
+/// A connection of a cell that gives these directions.
+fn connection_of(
+    alloc: Global,
+    directions: &Index<Member>,
+    member: &Member,
+) -> Result<Port, NoMemory>
+    ensures { IfOk result (λ port. port ≡ connection_of (map member_of directions.now)
+        (member_of member.now)) }
 {
     let name = member.0.as_bytes();
     let bits = bits_of(alloc, &member.1)?;
     Ok(Port {
         name: Bytes::of(alloc, name)?,
-        direction: direction_or_input(field_under(cell, b"port_directions", name)),
+        direction: direction_or_input(field_of(directions, name)),
         bits,
     })
 }
 
-/// The connections that members of a cell are.
-fn connections_listed(alloc: Global, cell: &Json, members: &[Member]) -> Result<Ports, NoMemory>
+/// The connections that members of a cell are that gives these directions.
+fn connections_listed(
+    alloc: Global,
+    directions: &Index<Member>,
+    members: &[Member],
+) -> Result<Ports, NoMemory>
     ensures { IfOk result (λ ports. ports
-        ≡ map (connection_of
-        (directions_given (placed_of cell.now))) (map member_of members.now)) }
+        ≡ map (connection_of (map member_of directions.now)) (map member_of members.now)) }
 {
     let mut ports = List::new(alloc);
     for member in members {
-        ports.push(connection_of(alloc, cell, member)?)?;
+        ports.push(connection_of(alloc, directions, member)?)?;
     }
     Ok(ports)
 }
@@ -138,10 +158,8 @@ fn connections_of(alloc: Global, cell: &Json) -> Result<Ports, NoMemory>
         ≡ map (connection_of (directions_given (placed_of cell.now)))
         (members_under (codes "connections") (members_in (placed_of cell.now)))) }
 {
-    match members_under(cell, b"connections") {
-        Some(members) => connections_listed(alloc, cell, members),
-        None => Ok(List::new(alloc)),
-    }
+    let directions = directions_of(alloc, cell);
+    connections_listed(alloc, &directions, members_under(cell, b"connections"))
 }
 
 /// Whether `hide_name` is there, and not 0.
@@ -235,10 +253,7 @@ fn cells_of(alloc: Global, value: &Json) -> Result<Cells, NoMemory>
     ensures { IfOk result (λ cells. cells
         ≡ map cell_of (inside (codes "cells") (members_in (placed_of value.now)))) }
 {
-    match members_inside(value, b"cells") {
-        Some(members) => cells_listed(alloc, members),
-        None => Ok(List::new(alloc)),
-    }
+    cells_listed(alloc, members_inside(value, b"cells"))
 }
 
 fn net_of(alloc: Global, member: &Member) -> Result<NetName, NoMemory>
@@ -269,10 +284,7 @@ fn nets_of(alloc: Global, value: &Json) -> Result<NetNames, NoMemory>
     ensures { IfOk result (λ nets. nets
         ≡ map net_of (inside (codes "netnames") (members_in (placed_of value.now)))) }
 {
-    match members_inside(value, b"netnames") {
-        Some(members) => nets_listed(alloc, members),
-        None => Ok(List::new(alloc)),
-    }
+    nets_listed(alloc, members_inside(value, b"netnames"))
 }
 
 /// Whether these are binary digits of value 1.
@@ -316,15 +328,23 @@ pub(crate) fn is_black_box(value: &Json) -> bool
 }
 
 /// The members of the object under a name, if there is one and the module is no black box.
-fn members_inside<'v, 'a>(value: &'v Json<'a>, name: &[u8]) -> Option<&'v [Member<'a>]>
+fn object_inside<'v, 'a>(value: &'v Json<'a>, name: &[u8]) -> Option<&'v [Member<'a>]>
     ensures { members_or_none (option_map (λ ms. map member_of ms.now) result)
         ≡ inside name.now (members_in (placed_of value.now)) }
 {
     if is_black_box(value) {
         None
     } else {
-        members_under(value, name)
+        object_under(value, name)
     }
+}
+
+/// The members of the object under a name, of which a black box has none.
+#[tactic(auto, using(crate::proofs::Found::members_found))]
+fn members_inside<'v, 'a>(value: &'v Json<'a>, name: &[u8]) -> &'v [Member<'a>]
+    ensures { map member_of result.now ≡ inside name.now (members_in (placed_of value.now)) }
+{
+    or_none(object_inside(value, name))
 }
 
 /// Makes a module the one that a member is.
@@ -369,8 +389,5 @@ fn modules_listed(alloc: Global, members: &[Member]) -> Result<Netlist, NoMemory
 pub(crate) fn netlist_of(alloc: Global, value: &Json) -> Result<Netlist, NoMemory>
     ensures { IfOk result (λ netlist. netlist ≡ netlist_of (placed_of value.now)) }
 {
-    match members_under(value, b"modules") {
-        Some(members) => modules_listed(alloc, members),
-        None => Ok(List::new(alloc)),
-    }
+    modules_listed(alloc, members_under(value, b"modules"))
 }

@@ -1,5 +1,6 @@
 //! The modules of a netlist.
 
+use crate::index::Named;
 use scald_base::{Bytes, List};
 
 /// Which way a port leads.
@@ -32,6 +33,14 @@ pub struct Port {
 }
 
 pub type Ports = List<Port>;
+
+impl Named for Port {
+    ghost name = { λ p. p.name };
+
+    fn name(&self) -> &[u8] {
+        self.name.as_slice()
+    }
+}
 
 /// A cell of a module.
 #[derive(Drop)]

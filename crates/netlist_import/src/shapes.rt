@@ -6,7 +6,7 @@ ghost use Rattle.netlist_import.specs.Fresh.{fresh, names_after};
 ghost use Rattle.netlist_import.specs.Shapes.{shaped};
 ghost use Rattle.netlist_import.specs.Words.{kind_word_of};
 
-use crate::kinds::{Kind, Kinds};
+use crate::kinds::Kind;
 use crate::names::Names;
 use crate::netlist::{Direction, Module, Port};
 use crate::words::kind_word_of;
@@ -101,28 +101,29 @@ fn add_modules(
 }
 
 /// The macro that the cells of a kind use.
-fn shape_of_kind(alloc: Global, names: &mut Names, kind: Kind) -> Result<Shape, NoMemory>
+fn shape_of_kind(alloc: Global, names: &mut Names, kind: &Kind) -> Result<Shape, NoMemory>
     ensures names { IfOk result (λ shape. names.new ≡ names.old ++ shape.name ∷ []) }
     ensures shape { IfOk result (λ shape. shape ≡ record {
-      name = fresh names.old (kind_word_of kind.kind);
-      ports = kind.ports;
+      name = fresh names.old (kind_word_of kind.now.kind);
+      ports = kind.now.ports;
     }) }
 {
-    let Kind { kind, ports, .. } = kind;
-    let name = take_name(alloc, names, kind.as_slice())?;
+    let ports = kind.ports.formals(alloc)?;
+    let name = take_name(alloc, names, kind.kind.as_slice())?;
     Ok(Shape { name, ports })
 }
 
 /// Adds the macros of all kinds.
+#[tactic(auto, unfolding(crate::specs::Fresh::names_after, crate::specs::Shapes::shaped))]
 fn add_kinds(
     alloc: Global,
     names: &mut Names,
-    kinds: Kinds,
+    kinds: &[Kind],
     shapes: &mut Shapes,
 ) -> Result<(), NoMemory>
     ensures { OnOk result (shapes.new ≡ shapes.old
-        ++ shaped (names_after names.old (map (λ k. kind_word_of k.kind) kinds.items))
-        (map (λ k. k.ports) kinds.items)) }
+        ++ shaped (names_after names.old (map (λ k. kind_word_of k.kind) kinds.now))
+        (map (λ k. k.ports) kinds.now)) }
 {
     for kind in kinds {
         shapes.push(shape_of_kind(alloc, names, kind)?)?;
@@ -134,14 +135,14 @@ fn add_kinds(
 fn add_shapes(
     alloc: Global,
     modules: &[Module],
-    kinds: Kinds,
+    kinds: &[Kind],
     shapes: &mut Shapes,
 ) -> Result<(), NoMemory>
     requires { shapes.old ≡ [] }
     ensures { OnOk result (shapes.new ≡ shaped
         (names_after [] (map (λ m. kind_word_of m.name) modules.now
-        ++ map (λ k. kind_word_of k.kind) kinds.items))
-        (map (λ m. formals_of m.ports) modules.now ++ map (λ k. k.ports) kinds.items)) }
+        ++ map (λ k. kind_word_of k.kind) kinds.now))
+        (map (λ m. formals_of m.ports) modules.now ++ map (λ k. k.ports) kinds.now)) }
 {
     let mut names = Names::new(alloc);
     add_modules(alloc, &mut names, modules, shapes)?;
@@ -149,11 +150,15 @@ fn add_shapes(
 }
 
 /// The macros of all modules, and then of all kinds.
-pub(crate) fn shapes_of(alloc: Global, modules: &[Module], kinds: Kinds) -> Result<Shapes, NoMemory>
+pub(crate) fn shapes_of(
+    alloc: Global,
+    modules: &[Module],
+    kinds: &[Kind],
+) -> Result<Shapes, NoMemory>
     ensures { IfOk result (λ shapes. shapes ≡ shaped
         (names_after [] (map (λ m. kind_word_of m.name) modules.now
-        ++ map (λ k. kind_word_of k.kind) kinds.items))
-        (map (λ m. formals_of m.ports) modules.now ++ map (λ k. k.ports) kinds.items)) }
+        ++ map (λ k. kind_word_of k.kind) kinds.now))
+        (map (λ m. formals_of m.ports) modules.now ++ map (λ k. k.ports) kinds.now)) }
 {
     let mut shapes = List::new(alloc);
     add_shapes(alloc, modules, kinds, &mut shapes)?;

@@ -2,11 +2,12 @@
 
 ghost use Rattle.std.specs.Prelude.{◌≡◌, ◌||◌, IfOk, OnOk, option_map};
 ghost use Rattle.std.specs.List.{list_any};
-ghost use Rattle.std.specs.Map.{lookup};
 ghost use Rattle.netlist_import.specs.Netlist.{module_named, place_named};
 ghost use Rattle.netlist_import.specs.Fault.{is_used};
-ghost use Rattle.netlist_import.specs.Types.{is_key, is_of};
+ghost use Rattle.netlist_import.specs.Index.{is_key};
+ghost use Rattle.netlist_import.specs.Types.{is_of};
 
+use crate::index::{Named, places};
 use crate::netlist::{Cell, Module};
 use indexmap::{IndexMap, IndexSet};
 use scald_base::NoMemory;
@@ -16,6 +17,7 @@ use std::marker::Model;
 /// The modules of a netlist, to be found by their names.
 #[derive(Drop)]
 pub struct Types<'n> {
+    alloc: Global,
     modules: &'n [Module],
     /// The place of each name's first module.
     places: IndexMap<&'n [u8], usize>,
@@ -35,18 +37,12 @@ impl<'n> Model for Types<'n> {
     ghost invariant = { λ t. AreTypes t.modules.now t.places.entries t.used.keys };
 }
 
-/// The place of each name's first module.
-fn places(alloc: Global, modules: &[Module]) -> Result<IndexMap<&[u8], usize>, NoMemory>
-    ensures { IfOk result (λ places. (name : _) →
-        lookup (is_key name) places.entries ≡ place_named name.now modules.now) }
-{
-    let mut places = IndexMap::new(alloc);
-    let mut place = modules.len();
-    while place > 0 {
-        place -= 1;
-        places.insert(modules[place].name.as_slice(), place)?;
+impl Named for Module {
+    ghost name = { λ m. m.name };
+
+    fn name(&self) -> &[u8] {
+        self.name.as_slice()
     }
-    Ok(places)
 }
 
 /// Adds the types of cells.
@@ -80,10 +76,16 @@ impl<'n> Types<'n> {
         let places = places(alloc, modules)?;
         let used = used(alloc, modules)?;
         Ok(Types {
+            alloc,
             modules,
             places,
             used,
         })
+    }
+
+    /// The allocator.
+    pub(crate) fn alloc(&self) -> Global {
+        self.alloc
     }
 
     /// The place of the first module of a name, from 0.

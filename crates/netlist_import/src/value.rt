@@ -4,6 +4,7 @@ ghost use Rattle.std.specs.Prelude.{◌≡◌, map, option_map};
 ghost use Rattle.netlist_import.specs.Netlist.{members_in, members_under};
 ghost use Rattle.netlist_import.specs.Placed.{array_of, field, member_of, number_of, object_of, placed_of, text_of, token_of};
 
+use crate::index::{Index, Named};
 use scald_base::same_bytes;
 
 /// A value, with the number of its first token in the text, from 0. Its texts are the text's own,
@@ -22,6 +23,14 @@ pub enum Json<'a> {
 
 /// A member's name and its value.
 pub(crate) type Member<'a> = (&'a str, Json<'a>);
+
+impl<'a> Named for (&'a str, Json<'a>) {
+    ghost name = { λ m. m.0.now };
+
+    fn name(&self) -> &[u8] {
+        self.0.as_bytes()
+    }
+}
 
 impl<'a> Json<'a> {
     /// The number of the value's first token.
@@ -93,6 +102,18 @@ pub(crate) fn field<'v, 'a>(members: &'v [Member<'a>], name: &[u8]) -> Option<&'
         }
     }
     None
+}
+
+/// The same, of members that are looked up.
+#[tactic(auto, using(crate::proofs::Found::field_at))]
+pub(crate) fn field_of<'v, 'a>(members: &Index<'v, Member<'a>>, name: &[u8]) -> Option<&'v Json<'a>>
+    ensures { option_map (λ v. placed_of v.now) result ≡ field name.now
+        (map member_of members.now) }
+{
+    match members.find(name) {
+        Some(member) => Some(&member.1),
+        None => None,
+    }
 }
 
 /// The value of a member of an object, if it is one that has it.

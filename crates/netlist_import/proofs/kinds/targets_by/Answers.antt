@@ -11,8 +11,8 @@ loop-module-preserved c =
     let ms = c.args.modules.now in
     let i = c.loop-module.module-index in
     let m = c.module-item.result in
-    let kinds = c.loop-module.kinds.items in
-    let next = c.targets_of.new.kinds.items in
+    let kinds = c.loop-module.kinds in
+    let next = c.targets_of.new.kinds in
     let grown : next ≡ kinds_after ms kinds m.cells =
     c.in_ok-targets_of.ensures.kinds ∙ ap (λ (t : List Module). kinds_after t kinds
     c.as_slice-cells.result.now) c.requires
@@ -26,13 +26,13 @@ loop-module-preserved c =
     record {
       targets =
           targets_here ms ms i m kinds next
-          (map (map (number_of_used ms)) (all_uses_after ms c.args.kinds.now.items ms))
+          (map (map (number_of_used ms)) (all_uses_after ms c.args.kinds.now ms))
           c.loop-module.all c.push.new.self
           c.loop-module-test.true c.module-item.is grown
           (c.in_ok-push.ensures.ok ∙ ap (λ (t : List ℕ). c.loop-module.all ++ t ∷ []) used)
           c.loop-module.invariant.targets;
       kinds =
-          kinds_here ms ms i m kinds next (kinds_after ms c.args.kinds.now.items (all_cells ms))
+          kinds_here ms ms i m kinds next (kinds_after ms c.args.kinds.now (all_cells ms))
           c.loop-module-test.true c.module-item.is grown
           c.loop-module.invariant.kinds;
     }
@@ -40,13 +40,13 @@ loop-module-preserved c =
 pub returns-clause-targets : goal.returns-clause-targets
 returns-clause-targets c =
     let ms = c.args.modules.now in
-    targets_end ms ms c.loop-module.module-index c.loop-module.kinds.items
-    (map (map (number_of_used ms)) (all_uses_after ms c.args.kinds.now.items ms)) c.loop-module.all
+    targets_end ms ms c.loop-module.module-index c.loop-module.kinds
+    (map (map (number_of_used ms)) (all_uses_after ms c.args.kinds.now ms)) c.loop-module.all
     c.loop-module-test.false c.loop-module.invariant.targets
 
 pub returns-clause-kinds : goal.returns-clause-kinds
 returns-clause-kinds c =
     let ms = c.args.modules.now in
-    kinds_end ms ms c.loop-module.module-index c.loop-module.kinds.items
-    (kinds_after ms c.args.kinds.now.items (all_cells ms))
+    kinds_end ms ms c.loop-module.module-index c.loop-module.kinds
+    (kinds_after ms c.args.kinds.now (all_cells ms))
     c.loop-module-test.false c.loop-module.invariant.kinds

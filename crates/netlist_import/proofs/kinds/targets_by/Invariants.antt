@@ -6,11 +6,11 @@ use Rattle.netlist_import.proofs.kinds.targets_by.Given as goal
 abbrev pub invariant-loop-module : goal.invariant-loop-module
 invariant-loop-module l = record {
   targets :
-      map (map (number_of_used l.modules)) (all_uses_after l.modules l.initial.kinds.items
+      map (map (number_of_used l.modules)) (all_uses_after l.modules l.initial.kinds
       l.modules)
       ≡ l.all ++ map (map (number_of_used l.modules))
-      (all_uses_after l.modules l.kinds.items (drop l.module-index l.modules));
+      (all_uses_after l.modules l.kinds (drop l.module-index l.modules));
   kinds :
-      kinds_after l.modules l.initial.kinds.items (all_cells l.modules)
-      ≡ kinds_after l.modules l.kinds.items (all_cells (drop l.module-index l.modules));
+      kinds_after l.modules l.initial.kinds (all_cells l.modules)
+      ≡ kinds_after l.modules l.kinds (all_cells (drop l.module-index l.modules));
 }

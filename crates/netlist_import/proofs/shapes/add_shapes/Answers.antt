@@ -8,7 +8,7 @@ use Rattle.netlist_import.proofs.shapes.add_shapes.Goals as goal
 pub returns : goal.returns
 returns c =
     let modules = c.args.modules.now in
-    let kinds = c.args.kinds.items in
+    let kinds = c.args.kinds.now in
     on_ok_weaker c.add_kinds.result
     (λ e. shapes_both c.new-names.result c.add_modules.new.names
     (map (λ m. kind_word_of m.name) modules) (map (λ k. kind_word_of k.kind) kinds)
