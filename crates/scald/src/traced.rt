@@ -1,5 +1,8 @@
 //! What the program says on standard error if the simulator ends without an answer.
 
+ghost use Rattle.std.specs.Prelude.{◌≡◌};
+ghost use Rattle.scald.specs.Said.{IsDrawingIn, asks_to_judge};
+
 use crate::said::{say, say_end, say_lines, say_refusal};
 use diagnostics::{Lines, Part};
 use scald_base::Words;
@@ -39,12 +42,21 @@ pub fn explain_cases(alloc: Global, count: u32) -> Lines {
     out
 }
 
-/// The drawing in a text: what follows the trace if a trace is judged, and else all of it.
-fn drawing_of<'a>(words: &Words, text: &'a [u8]) -> &'a [u8] {
+/// Whether the first word is `judge`.
+fn asks_to_judge(words: &Words) -> bool
+    ensures { result ≡ asks_to_judge words.now }
+{
     let [first, ..] = words.as_slice() else {
-        return text;
+        return false;
     };
-    if first.as_slice() != b"judge".as_slice() {
+    first.as_slice() == b"judge".as_slice()
+}
+
+/// The drawing in a text: what follows the trace if a trace is judged, and else all of it.
+fn drawing_of<'a>(words: &Words, text: &'a [u8]) -> &'a [u8]
+    ensures { IsDrawingIn (asks_to_judge words.now) text.now result.now }
+{
+    if !asks_to_judge(words) {
         return text;
     }
     match split_trace(text) {
