@@ -30,7 +30,7 @@ use Rattle.critical_paths.specs.Tick.{slot_of}
 use Rattle.critical_paths.specs.Event.{turned}
 use Rattle.critical_paths.specs.Cause.{held_of, held_pin, is_heard_by}
 use Rattle.critical_paths.specs.Path.{Arc, choices, inward, is_tight}
-use Rattle.critical_paths.specs.Unfolded.{Read, end_delay, end_word, is_moving, mover_by, moves_ever, one_of, only, open_arc, open_before, open_cause, open_pin, open_target, same_if_tight}
+use Rattle.critical_paths.specs.Unfolded.{Read, end_delay, end_word, is_moving, mover_by, moves_ever, one_of, only, PulseEnd, open_arc, open_before, open_cause, open_pin, open_target, same_if_tight}
 use Rattle.critical_paths.specs.Views.{IsCount, arc_of, delay_by, may_make, pins_shown}
 use Rattle.critical_paths.proofs.Backing.{each_delay, unmapped}
 use Rattle.critical_paths.proofs.Pins.{fits_at, long_shown}
@@ -231,10 +231,19 @@ module _ (c : Circuit) (ws : Waves) (j : Instance) (corner : Corner) (d : Direct
   abbrev pub pinned_by : Option Direction → Option Pinned
   pinned_by found = option_map (λ own. record { pin = place; direction = own }) found
 
+  abbrev pub own_end : PulseEnd
+  own_end = record {
+    corner = corner;
+    direction = d;
+    slot = slot_of (period c.header) tick;
+    split = two;
+    delay = delay;
+  }
+
   tried : (n late : ℕ) (word : Word) → late ≡ inward corner delay n → word ≡ end_word two n →
       option_map (arc_of late word)
       (pinned_by (open_cause c ws j d (slot_of (period c.header) (tick -ℤ pos late)) place))
-      ≡ open_arc c ws j corner d (slot_of (period c.header) tick) two delay place n
+      ≡ open_arc c ws j own_end place n
   tried n late word is named =
       ap (λ (p : ℕ). option_map (arc_of late word) (pinned_by (open_cause c ws j d p place)))
       (slot_back (period c.header) late tick some)
@@ -251,34 +260,33 @@ module _ (c : Circuit) (ws : Waves) (j : Instance) (corner : Corner) (d : Direct
       word ≡ end_word two n → found
       ≡ pinned_by (open_cause c ws j d (slot_of (period c.header) (tick -ℤ pos late)) place) →
       noted ≡ option_map (arc_of late word) found →
-      noted ≡ open_arc c ws j corner d (slot_of (period c.header) tick) two delay place n
+      noted ≡ open_arc c ws j own_end place n
   own_tried n late word found noted is named by noted_is =
       noted_is ∙ ap (option_map (arc_of late word)) by ∙ tried n late word is named
 
 -- none of as many as a period has
-pub own_nowhere : (c : Circuit) (ws : Waves) (j : Instance) (corner : Corner) (d : Direction)
-    (q : ℕ) (two : Option Split) (delay : Bounds)
-    (place count : ℕ) → 0 < period c.header → delay.min ≤ delay.max → count
-    ≡ min (choices delay) (period c.header) →
-    ((n : ℕ) → n < count → open_arc c ws j corner d q two delay place n ≡ None) →
-    None ≡ first_some (open_arc c ws j corner d q two delay place) (choices delay) 0
-own_nowhere c ws j corner d q two delay place count some ordered is none =
-    let each : (n : ℕ) → n < choices delay →
-    open_cause c ws j d (back (period c.header) q (inward corner delay n)) place ≡ None =
-    each_delay (λ slot. open_cause c ws j d slot place ≡ None) corner
-    (period c.header) q delay count some ordered is
+pub own_nowhere : (c : Circuit) (ws : Waves) (j : Instance) (e : PulseEnd) (place count : ℕ) →
+    0 < period c.header → e.delay.min ≤ e.delay.max →
+    count ≡ min (choices e.delay) (period c.header) →
+    ((n : ℕ) → n < count → open_arc c ws j e place n ≡ None) →
+    None ≡ first_some (open_arc c ws j e place) (choices e.delay) 0
+own_nowhere c ws j e place count some ordered is none =
+    let each : (n : ℕ) → n < choices e.delay →
+    open_cause c ws j e.direction (back (period c.header) e.slot (inward e.corner e.delay n)) place
+    ≡ None =
+    each_delay (λ slot. open_cause c ws j e.direction slot place ≡ None) e.corner
+    (period c.header) e.slot e.delay count some ordered is
     (λ n below. unmapped (λ own. record {
-      cause = record { pin = place; direction = own; word = end_word two n };
-      delay = inward corner
-          delay n;
+      cause = record { pin = place; direction = own; word = end_word e.split n };
+      delay = inward e.corner e.delay n;
     })
-    (open_cause c ws j d (back (period c.header) q (inward corner delay n)) place) (none n below))
+    (open_cause c ws j e.direction (back (period c.header) e.slot (inward e.corner e.delay n))
+    place) (none n below))
     in
-    sym (first_some_nowhere (open_arc c ws j corner d q two delay place) (choices delay) 0
+    sym (first_some_nowhere (open_arc c ws j e place) (choices e.delay) 0
     (λ n below. ap (option_map (λ own. record {
-      cause = record { pin = place; direction = own; word = end_word two n };
-      delay = inward corner
-          delay n;
+      cause = record { pin = place; direction = own; word = end_word e.split n };
+      delay = inward e.corner e.delay n;
     }))
     (each n (omega (arith, below)))))
 

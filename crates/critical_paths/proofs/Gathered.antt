@@ -1,11 +1,18 @@
 -- What is gathered at a place is what the definitions make of its ways.
-use Rattle.std.proofs.Common.{◌≡◌, ℕ, zero, suc, ◌+◌, ◌<◌, ◌==◌, Bool, true, false, ◌&&◌, cond, List, [], ◌∷◌, ◌++◌, map, filter, fold, slice_set, refl, sym, ap, ◌∙◌, arith, eqb-true, eq-eqb, ℤ, pos}
+use Rattle.std.proofs.Common.{◌≡◌, ℕ, zero, suc, ◌+◌, ◌-◌, ◌/◌, ◌%◌, ◌<◌, ◌≤◌, not, ◌==◌, Bool, true, false, ◌&&◌, cond, List, [], ◌∷◌, ◌++◌, map, filter, fold, slice_set, refl, sym, ap, ◌∙◌, arith, eqb-true, eq-eqb, ℤ, pos, Option, Some, None}
+use Rattle.std.specs.List.{All, AllByRecursion, range_with_len}
 use Rattle.std.specs.Ordering.{int_eq}
+use Rattle.std.specs.Prelude.{unwrap_or}
+use Rattle.std.proofs.Math.Nat.{mod-add-div'}
+use Rattle.std.proofs.lemmas.Bool.{and_parts}
 use Rattle.std.proofs.lemmas.List.{map-append}
-use Rattle.std.proofs.lemmas.List.Elements.{filter-append}
+use Rattle.std.proofs.lemmas.List.Elements.{All-from_recursion, filter-append}
 use Rattle.std.proofs.lemmas.Int.{ints}
 use Rattle.scald_base.specs.Clock.{back}
 use Rattle.scald_base.specs.Time.{period}
+use Rattle.scald_base.proofs.Back.{back_zero}
+use Rattle.step_values.specs.Cell.{values}
+use Rattle.skew_algebra.specs.Wave.{fold as wave_fold}
 use Rattle.flat_circuit.specs.Circuit.{Circuit}
 use Rattle.fixpoint_engine.specs.Waves.{Waves}
 use Rattle.critical_paths.specs.declared.arrival.Place.{Place}
@@ -14,11 +21,78 @@ use Rattle.critical_paths.specs.declared.direction.Corner.TheVariants.{Late, Ear
 use Rattle.critical_paths.specs.declared.gather.Reached.{Reached}
 use Rattle.critical_paths.specs.declared.path.Passage.{Passage}
 use Rattle.critical_paths.specs.Launch.{ticks_of}
+use Rattle.critical_paths.specs.Event.{Events, events, is_first, is_last}
 use Rattle.critical_paths.specs.Path.{is_event}
-use Rattle.critical_paths.specs.Tick.{is_further}
+use Rattle.critical_paths.specs.Region.{IsCyclic, first_from, region_from, regions, regions_from}
+use Rattle.critical_paths.specs.Views.{end_at, ticks_of_region}
+use Rattle.critical_paths.specs.Tick.{is_further, slot_of}
 use Rattle.critical_paths.specs.Arrival.{Arrival, is_further as is_further_arrival, later_by, with_further}
-use Rattle.critical_paths.specs.Reached.{IsFirstOf, IsOfNone, comes, gathered, later, of_clock, time_of, with_all, with_one, with_time}
+use Rattle.critical_paths.specs.Reached.{IsEdgeRegion, IsFirstOf, IsOfNone, comes, gathered, later, of_clock, time_of, with_all, with_one, with_time}
+use Rattle.critical_paths.proofs.Runs.{region_from_each, region_from_ordered, repeats}
+use Rattle.critical_paths.proofs.Searches.{first_is}
 use Rattle.critical_paths.proofs.Ticks.{slot_pos}
+
+-- ---- regions
+
+module _ (c : Circuit) (ws : Waves) (q : Place) (short : period c.header ≤ 4096)
+    (long : 2 ≤ period c.header)
+    (cyclic : IsCyclic (period c.header) (events q.direction (wave_fold values (ws q.net)))) where
+  abbrev p : ℕ
+  p = period c.header
+
+  abbrev ev : Events
+  ev = events q.direction (wave_fold values (ws q.net))
+
+  last_near : (t : ℕ) → t < p → (o : Option ℕ) → first_from (is_last ev) p t ≡ o →
+      unwrap_or o t ≤ 65536
+  last_near t less None is = omega (arith, less, short)
+  last_near t less (Some l) is =
+      let below = (first_is (is_last ev) p t l is).below in omega (arith, below, less, short)
+
+  in_slot : (t : ℕ) → ev t ≡ true → ev (slot_of p (pos t)) ≡ true
+  in_slot t here =
+      ap ev (slot_pos p t (omega (arith, long)) ∙ back_zero p t)
+      ∙ sym (repeats p ev cyclic long (t / p) (t % p)) ∙ ap ev (mod-add-div' t p) ∙ here
+
+  -- both ends are events
+  end_event : (corner : Corner) (t : ℕ) → ev t ≡ true →
+      ev (slot_of p (end_at corner (ticks_of_region (region_from p ev t)))) ≡ true
+  end_event Late t here =
+      in_slot (region_from p ev t).last
+      (region_from_each p ev cyclic long t here (region_from p ev t).last
+      (region_from_ordered p ev cyclic long t) (omega arith))
+  end_event Early t here = in_slot t here
+
+  edge_region : (t : ℕ) → t < p → ev t ≡ true →
+      IsEdgeRegion c ws q (ticks_of_region (region_from p ev t))
+  edge_region t less here =
+      let last = last_near t less (first_from (is_last ev) p t) refl in
+      record {
+        first = record { low = omega (arith, ints); high = omega (arith, ints, less, short) };
+        last = record { low = omega (arith, ints); high = omega (arith, ints, last) };
+        event = end_event q.corner t here;
+      }
+
+  edges_from : (n t : ℕ) → t + n ≤ p →
+      AllByRecursion (IsEdgeRegion c ws q) (map ticks_of_region (regions_from p ev n t))
+  edges_from zero t within = tt
+  edges_from (suc n) t within =
+      by (is_first p ev t) refl (edges_from n (t + 1) (omega (arith, within)))
+    where
+      by : (b : Bool) → is_first p ev t ≡ b →
+          AllByRecursion (IsEdgeRegion c ws q) (map ticks_of_region (regions_from p ev n (t + 1))) →
+          AllByRecursion (IsEdgeRegion c ws q) (map ticks_of_region (map (region_from p ev)
+          (cond b (t ∷ filter (is_first p ev) (range_with_len (t + 1) n))
+          (filter (is_first p ev) (range_with_len (t + 1) n)))))
+      by true is rest = (
+        edge_region t (omega (arith, within)) (and_parts (ev t) (not (ev (t + (p - 1)))) is).0,
+        rest,
+      )
+      by false is rest = rest
+
+  pub edge_regions : All (IsEdgeRegion c ws q) (map ticks_of_region (regions p ev))
+  edge_regions = All-from_recursion (IsEdgeRegion c ws q) (map ticks_of_region (regions p ev))
+      (edges_from p 0 (omega arith))
 
 -- ---- one more, among those of the program
 

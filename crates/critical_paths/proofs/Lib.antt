@@ -1,6 +1,7 @@
 pub mod Circuits
 mod ExamplesPaths
 mod ExamplesLaunches
+mod ExamplesArrivals
 mod ExamplesEnds
 mod ExamplesWires
 pub mod Searches
@@ -24,6 +25,13 @@ mod Keys
 mod Places
 mod Gathered
 mod Arrivals
+mod Appended
+mod Behind
+mod Ways
+pub mod Exact
+mod Chains
+mod Search
+mod Fresh
 mod Walks
 mod Settles
 mod Turning

@@ -22,7 +22,7 @@ use Rattle.critical_paths.specs.Event.{turned}
 use Rattle.critical_paths.specs.Path.{Before, before}
 use Rattle.critical_paths.specs.Tick.{slot_of}
 use Rattle.critical_paths.specs.Known.{LeadsWithin}
-use Rattle.critical_paths.specs.Unfolded.{Read, by_folds, end_delay, mover, read_by}
+use Rattle.critical_paths.specs.Unfolded.{PulseEnd, Read, by_folds, end_delay, mover, read_by}
 use Rattle.critical_paths.specs.Views.{event_of, read_of}
 use Rattle.critical_paths.specs.Walk.{origin_by, origin_from, origin_of, read_at, stop_of}
 use Rattle.critical_paths.proofs.Edges.{at_slot}
@@ -72,22 +72,29 @@ module _ (c : Circuit) (ws : Waves) (s : Stop) where
       (own_slot (period c.header) s.slot tick below tick_is))
       ∙ sym (ap (read_at c ws s j) folded)
 
+  abbrev end_by : Instance → Direction → ℕ → Option Split → PulseEnd
+  end_by j own q two =
+      record {
+        corner = s.corner;
+        direction = own;
+        slot = q;
+        split = two;
+        delay = end_delay j.delay own two;
+      }
+
   pub ends_are : (j : Instance) (tick : ℤ) (own : Direction) (found : Option Read) →
-      found ≡ read_by c ws j s.corner own (slot_of (period c.header) tick) j.split
-      (end_delay j.delay own j.split) (mover c ws j) →
+      found ≡ read_by c ws j (end_by j own (slot_of (period c.header) tick) j.split)
+      (mover c ws j) →
       SplitFits j.kind j.delay j.split → s.slot < period c.header → s.reading ≡ Unfolded →
       own ≡ turned j.out_inverted s.direction → tick ≡ pos s.slot →
       found ≡ read_at c ws s j s.reading
   ends_are j tick own found found_is fits below unfolded own_is tick_is =
       let d = turned j.out_inverted s.direction in
       found_is
-      ∙ ap (λ (q : ℕ). read_by c ws j s.corner own q j.split (end_delay j.delay own j.split)
-      (mover c ws j))
+      ∙ ap (λ (q : ℕ). read_by c ws j (end_by j own q j.split) (mover c ws j))
       (own_slot (period c.header) s.slot tick below tick_is)
-      ∙ ap (λ (o : Direction). read_by c ws j s.corner o s.slot j.split
-      (end_delay j.delay o j.split) (mover c ws j)) own_is
-      ∙ sym (ap (λ (two : Option Split). read_by c ws j s.corner d s.slot two
-      (end_delay j.delay d two) (mover c ws j))
+      ∙ ap (λ (o : Direction). read_by c ws j (end_by j o s.slot j.split) (mover c ws j)) own_is
+      ∙ sym (ap (λ (two : Option Split). read_by c ws j (end_by j d s.slot two) (mover c ws j))
       (split_counts j.kind j.delay j.split fits))
       ∙ sym (ap (read_at c ws s j) unfolded)
 

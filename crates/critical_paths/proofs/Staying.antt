@@ -28,7 +28,7 @@ use Rattle.critical_paths.specs.declared.path.Origin.TheVariants.{Earlier}
 use Rattle.critical_paths.specs.declared.path.Passage.{Passage}
 use Rattle.critical_paths.specs.Event.{Event, opposite, turned}
 use Rattle.critical_paths.specs.Path.{Arc, Before, arc_in, arc_inward, asks, before, before_arc, before_by, before_pin, before_target, before_wire, choices, cut, cut_at, cut_by, cut_off, cut_own, event_before, firm_arc, free_arc, is_cut_by, is_event}
-use Rattle.critical_paths.specs.Unfolded.{Read, by_folds, end_delay, mover, open_arc, open_before, open_pin, open_target, read_by, with_word}
+use Rattle.critical_paths.specs.Unfolded.{PulseEnd, Read, by_folds, end_delay, mover, open_arc, open_before, open_pin, open_target, read_by, with_word}
 use Rattle.critical_paths.specs.Walk.{event_at, origin_by, origin_from, origin_of, read_at, reading_of, stop_of}
 use Rattle.critical_paths.specs.Known.{IsShort, IsStop, LeadsWithin}
 use Rattle.critical_paths.proofs.Linked.{first_if, kept_if, or_if, then_if}
@@ -163,9 +163,13 @@ module _ (c : Circuit) (ws : Waves) (some : 0 < period c.header) where
         by None exists = tt
         by (Some pin) exists = on pin.inverted pin.target (exists pin refl)
 
+    abbrev end_by : ℕ → Direction → Option Split → Bounds → PulseEnd
+    end_by q own two bounds =
+        record { corner = corner; direction = own; slot = q; split = two; delay = bounds }
+
     read_stays : (j : Instance) → HasPins j → (q : ℕ) (own : Direction) (two : Option Split)
         (bounds : Bounds) (o : Option ℕ) →
-        IfSome (read_by c ws j corner own q two bounds o) StaysRead
+        IfSome (read_by c ws j (end_by q own two bounds) o) StaysRead
     read_stays j has q own two bounds None =
         map_if StaysRead by_folds
         (option_and_then (λ a. before_arc c ws j corner q (with_word two a))
@@ -176,7 +180,7 @@ module _ (c : Circuit) (ws : Waves) (some : 0 < period c.header) where
         (slice_get j.pins a.cause.pin) (has a.cause.pin)))
     read_stays j has q own two bounds (Some i) =
         then_if StaysRead (open_before c j q) (first_some
-        (open_arc c ws j corner own q two bounds i) (choices bounds) 0)
+        (open_arc c ws j (end_by q own two bounds) i) (choices bounds) 0)
         (open_stays j has q)
 
   -- ---- a stop comes from one of the circuit

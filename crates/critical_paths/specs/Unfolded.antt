@@ -97,17 +97,25 @@ end_word None n = Same
 end_word (Some s) zero = Tight
 end_word (Some s) (suc n) = Inside
 
+-- an end of a pulse at an element's own output, and the delay that it takes there
+pub record PulseEnd : Type 0 where
+  pub corner : Corner
+  pub direction : Direction
+  pub slot : ℕ
+  pub split : Option Split
+  pub delay : Bounds
+
 -- ---- through the one pin that moves
 
-abbrev pub open_arc : Circuit → Waves → Instance → Corner → Direction → ℕ → Option Split → Bounds →
-    ℕ → ℕ → Option Arc
-open_arc c ws j corner d q two bounds i n =
+abbrev pub open_arc : Circuit → Waves → Instance → PulseEnd → ℕ → ℕ → Option Arc
+open_arc c ws j e i n =
     option_map
     (λ own. record {
-      cause = record { pin = i; direction = own; word = end_word two n };
-      delay = inward corner bounds n;
+      cause = record { pin = i; direction = own; word = end_word e.split n };
+      delay = inward e.corner e.delay n;
     })
-    (open_cause c ws j d (back (period c.header) q (inward corner bounds n)) i)
+    (open_cause c ws j e.direction
+    (back (period c.header) e.slot (inward e.corner e.delay n)) i)
 
 -- by the least wire
 abbrev pub open_target : Circuit → ℕ → Arc → Bool → Target → Option Read
@@ -150,25 +158,29 @@ with_word two a =
 abbrev pub by_folds : Before → Read
 by_folds b = record { passage = b.passage; event = b.event; reading = Folded }
 
-abbrev pub before_many : Circuit → Waves → Instance → Corner → Direction → ℕ → Option Split →
-    Bounds → Option Read
-before_many c ws j corner d q two bounds =
+abbrev pub before_many : Circuit → Waves → Instance → PulseEnd → Option Read
+before_many c ws j e =
     option_map by_folds
-    (option_and_then (λ a. before_arc c ws j corner q (with_word two a))
-    (arc_inward c ws j corner d q bounds 0))
+    (option_and_then (λ a. before_arc c ws j e.corner e.slot (with_word e.split a))
+    (arc_inward c ws j e.corner e.direction e.slot e.delay 0))
 
 -- ---- the event before
 
-abbrev pub read_by : Circuit → Waves → Instance → Corner → Direction → ℕ → Option Split → Bounds →
-    Option ℕ → Option Read
-read_by c ws j corner d q two bounds None = before_many c ws j corner d q two bounds
-read_by c ws j corner d q two bounds (Some i) =
-    option_and_then (open_before c j q) (first_some (open_arc c ws j corner d q two bounds i)
-    (choices bounds) 0)
+abbrev pub read_by : Circuit → Waves → Instance → PulseEnd → Option ℕ → Option Read
+read_by c ws j e None = before_many c ws j e
+read_by c ws j e (Some i) =
+    option_and_then (open_before c j e.slot) (first_some (open_arc c ws j e i)
+    (choices e.delay) 0)
 
 -- the event that an end of a pulse came from, on a net which this instance drives
 abbrev pub read_before : Circuit → Waves → Corner → Event → Instance → Option Read
 read_before c ws corner e j =
     let own = turned j.out_inverted e.direction in
     let two = two_delays j.kind j.split in
-    read_by c ws j corner own e.slot two (end_delay j.delay own two) (mover c ws j)
+    read_by c ws j (record {
+      corner = corner;
+      direction = own;
+      slot = e.slot;
+      split = two;
+      delay = end_delay j.delay own two;
+    }) (mover c ws j)

@@ -29,6 +29,7 @@ use Rattle.critical_paths.specs.declared.event.Reading.{Reading}
 use Rattle.critical_paths.specs.declared.event.Reading.TheVariants.{Folded, Unfolded}
 use Rattle.critical_paths.specs.declared.region.Test.{Test}
 use Rattle.critical_paths.specs.declared.region.Test.TheVariants.{May, Lacks, Unlike}
+use Rattle.critical_paths.specs.declared.cause.Asked.{Asked}
 use Rattle.critical_paths.specs.declared.cause.Cause.{Cause as Pinned}
 use Rattle.critical_paths.specs.declared.cause.Causes.{Causes}
 use Rattle.critical_paths.specs.declared.path.Word.{Word}
@@ -40,7 +41,7 @@ use Rattle.critical_paths.specs.declared.view.Behind.{Behind}
 use Rattle.critical_paths.specs.Tick.{slot_of}
 use Rattle.critical_paths.specs.Event.{Event, Events, direction_by, moves, turned}
 use Rattle.critical_paths.specs.Cause.{Cause, if_loose, output_by, output_steps}
-use Rattle.critical_paths.specs.Unfolded.{Read}
+use Rattle.critical_paths.specs.Unfolded.{PulseEnd, Read}
 use Rattle.critical_paths.specs.Region.{Region}
 use Rattle.critical_paths.specs.Path.{Arc, Before, choices, cut_at, cut_off, delay_to, event_before, inward, is_event}
 
@@ -224,6 +225,17 @@ pub record IsAskedOf (tick : ℤ) (corner : Corner) (direction : Direction) (j :
   pub same_tick : e.tick ≡ tick
   pub same_corner : e.corner ≡ corner
   pub own : turned j.out_inverted e.direction ≡ direction
+
+-- what is asked of an element's output as an end of a pulse, in a period of p
+abbrev pub end_asked : ℕ → Asked → Bounds → PulseEnd
+end_asked p asked delay =
+    record {
+      corner = asked.corner;
+      direction = asked.direction;
+      slot = slot_of p asked.tick;
+      split = asked.element.now.split;
+      delay = delay;
+    }
 
 -- the delay of the output's own steps of a direction
 abbrev pub delay_by : Bounds → Direction → Option Split → Bounds

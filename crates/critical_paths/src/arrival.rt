@@ -1,20 +1,21 @@
 //! Arrivals: of each edge of a clock the last tick at which a net may change by it, or the first,
 //! over all ways, whatever else the elements on them do.
 
-ghost use Rattle.std.specs.Prelude.{◌≡◌, ◌==◌, ℕ, ◌+◌, ◌^◌, ◌<◌, ◌≤◌, ◌++◌, ◌∷◌, [], length, slice_get, is_some, if◌then◌else◌, IfSome, OnOk, Some, true};
+ghost use Rattle.std.specs.Prelude.{◌≡◌, ◌==◌, ◌+◌, ◌^◌, ◌<◌, ◌≤◌, ◌++◌, ◌∷◌, [], length, slice_get, is_some, if◌then◌else◌, IfSome, OnOk, Some, false, true};
 ghost use Rattle.std.specs.Option.{option_map};
 ghost use Rattle.critical_paths.specs.Arrival.{pin_direction};
 ghost use Rattle.critical_paths.specs.Path.{bound};
 ghost use Rattle.fixpoint_engine.specs.Waves.{waves_of};
 ghost use Rattle.critical_paths.specs.Tick.{IsWithin};
-ghost use Rattle.critical_paths.specs.Known.{Grows, IsShort, Knows};
-ghost use Rattle.critical_paths.specs.Reached.{KeepsArrivals, StaysKnown, arrived, behind_at, gathered, known_of, range_of, same_place, time_of, times};
+ghost use Rattle.critical_paths.specs.Known.{Grows, IsShort};
+ghost use Rattle.critical_paths.specs.Reached.{AreDoneBehind, AreExact, Extends, IsAppended, IsFew, Stand, StaysDone, StaysKnown, arrived, behind_at, gathered, is_done, known_of, range_of, same_place, times};
 ghost use Rattle.critical_paths.specs.Views.{Sees};
 
 use crate::back::own_delay;
 use crate::direction::{Corner, Direction};
 use crate::event::{Reading, Stop};
 use crate::gather::{AllReached, Reached, reached_at};
+use crate::near::Near;
 use crate::path::{Passage, Paths, Word};
 use crate::view::View;
 use fixpoint_engine::wire_behind;
@@ -22,10 +23,6 @@ use flat_circuit::{Circuit, Instance, Kind, Target};
 use scald_base::{Delay, NoMemory};
 use step_values::Value;
 use wave_core::CyclicWave;
-
-/// As often as a place is begun or ended: once each, if a clock and an end have three places for
-/// each of at most 65,536 nets.
-const STEPS: u32 = 2 * 3 * 65_536;
 
 /// The steps of a net, and the end of them that is asked for, by the edges of a clock.
 #[derive(Clone, Copy, PartialEq, Eq, Hash)]
@@ -80,16 +77,6 @@ pub(crate) enum Known {
     /// Its arrivals, by where they stand among all.
     Done(usize, usize),
 }
-
-/// A place that is being worked out, and the next pin.
-#[derive(Clone, Copy)]
-struct Frame {
-    place: Place,
-    pin: usize,
-}
-
-/// Places that are being worked out, each for the one before it.
-type Frames = Vec<Frame>;
 
 /// Which of a pin's steps count for steps of an element's own output.
 fn direction_at(kind: Kind, pin: usize, wanted: Direction) -> Direction
@@ -147,7 +134,8 @@ pub(crate) fn place_behind(
 
 /// Whether there is a net of this number.
 pub(crate) fn is_net<W: CyclicWave<Item = Value>>(view: &View<W>, net: u32) -> bool
-    ensures { result ≡ true → net < length view.now.circuit.now.nets }
+    ensures within { result ≡ true → net < length view.now.circuit.now.nets }
+    ensures net { net < length view.now.circuit.now.nets → result ≡ true }
 {
     match view.circuit.net(net) {
         Some(_) => true,
@@ -164,24 +152,30 @@ impl Paths {
     }
 
     /// Sets what is known of a place.
-    fn set_known(&mut self, place: Place, known: Known) -> Result<(), NoMemory>
+    pub(crate) fn set_known(&mut self, place: Place, known: Known) -> Result<(), NoMemory>
         ensures nodes { self.new.nodes ≡ self.old.nodes }
         ensures met { self.new.met.entries ≡ self.old.met.entries }
         ensures arrivals { self.new.arrivals ≡ self.old.arrivals }
         ensures known { OnOk result ((q : Place) → known_of self.new.known.entries q
             ≡ (if same_place place q then Some known else known_of self.old.known.entries q)) }
+        ensures count { OnOk result (length self.new.known.entries
+            ≡ length self.old.known.entries
+            + (if is_some (known_of self.old.known.entries place) then 0 else 1)) }
+        ensures small { OnOk result (length self.new.known.entries < 2 ^ 63) }
     {
         self.known.insert(place, known)?;
+        // no map has more entries
+        let _count = self.known.len();
         Ok(())
     }
 
     /// Appends an arrival and its event.
     fn append(&mut self, reached: Reached) -> Result<(), NoMemory>
-        ensures grows { OnOk result (Grows self.old.nodes self.new.nodes) }
+        ensures nodes { OnOk result (self.new.nodes ≡ self.old.nodes ++ reached.event ∷ []) }
         ensures met { OnOk result (self.new.met.entries ≡ self.old.met.entries) }
         ensures known { self.new.known.entries ≡ self.old.known.entries }
-        ensures arrivals { OnOk result (times self.new.arrivals
-            ≡ times self.old.arrivals ++ time_of reached ∷ []) }
+        ensures arrivals { OnOk result (IsAppended self.old.arrivals self.new.arrivals reached
+            (length self.old.nodes)) }
     {
         let number = self.nodes.len();
         self.nodes.push(reached.event)?;
@@ -199,6 +193,10 @@ impl Paths {
             else known_of self.old.known.entries q)) }
         ensures arrivals { OnOk result (times self.new.arrivals
             ≡ times self.old.arrivals ++ gathered found.now) }
+        ensures more { OnOk result (Extends self.old.arrivals self.new.arrivals) }
+        ensures stand { OnOk result (Stand self.new (length self.old.arrivals) found.now) }
+        ensures count { OnOk result (length self.old.known.entries
+            ≤ length self.new.known.entries) }
     {
         let from = self.arrivals.len();
         for number in 0..found.len() {
@@ -210,7 +208,7 @@ impl Paths {
     }
 
     /// Works a place out of those behind its pins.
-    fn finish<W: CyclicWave<Item = Value>>(
+    pub(crate) fn finish<W: CyclicWave<Item = Value>>(
         &mut self,
         view: &View<W>,
         place: Place,
@@ -220,111 +218,23 @@ impl Paths {
         ensures met { OnOk result (self.new.met.entries ≡ self.old.met.entries) }
         ensures stays { OnOk result (StaysKnown self.old.known.entries self.new.known.entries) }
         ensures exact { let c = view.now.circuit.now in let ws = waves_of view.now.waves.now in
-            OnOk result (KeepsArrivals c ws self.old.known.entries self.old.arrivals
-            self.new.known.entries self.new.arrivals) }
+            OnOk result (AreExact c ws self.old → AreExact c ws self.new) }
+        ensures others { OnOk result ((q : Place) → same_place place q ≡ false →
+            known_of self.new.known.entries q ≡ known_of self.old.known.entries q) }
+        ensures more { OnOk result (Extends self.old.arrivals self.new.arrivals) }
+        ensures keeps { OnOk result (StaysDone self.old.known.entries self.new.known.entries) }
+        ensures done { let c = view.now.circuit.now in let ws = waves_of view.now.waves.now in
+            OnOk result (AreExact c ws self.old → IsFew c ws place →
+            AreDoneBehind c self.old.known.entries place →
+            is_done self.new.known.entries place ≡ true) }
+        ensures count { OnOk result (length self.old.known.entries
+            ≤ length self.new.known.entries) }
     {
         let mut found = AllReached::new(view.alloc);
         if !self.add_all(view, place, &mut found)? {
             return Ok(());
         }
         self.append_all(place, found.as_slice())?;
-        Ok(())
-    }
-
-    /// The first place behind a pin from this one on that is not worked out, with the number of the
-    /// pin.
-    fn next_behind<W: CyclicWave<Item = Value>>(
-        &self,
-        view: &View<W>,
-        frame: Frame,
-    ) -> Option<(Place, usize)> {
-        let (_, element) = view.driver(frame.place.net)?;
-        for number in frame.pin..element.pins.len() {
-            if let Some((behind, _)) = place_behind(view.circuit, element, frame.place, number) {
-                if !matches!(self.known(behind), Some(Known::Done(_, _))) {
-                    return Some((behind, number));
-                }
-            }
-        }
-        None
-    }
-
-    /// Begins with a place. Where that was begun before, a way comes from a loop: nothing more is
-    /// worked out, and all that is begun stays so.
-    #[tactic(auto, using(crate::proofs::Arriving::grows_none))]
-    fn begin_at(&mut self, frames: &mut Frames, place: Place) -> Result<(), NoMemory>
-        ensures grows { OnOk result (Grows self.old.nodes self.new.nodes) }
-        ensures met { OnOk result (self.new.met.entries ≡ self.old.met.entries) }
-        ensures known { OnOk result (is_some (known_of self.new.known.entries place) ≡ true) }
-        ensures stays { OnOk result (StaysKnown self.old.known.entries self.new.known.entries) }
-        ensures arrivals { self.new.arrivals ≡ self.old.arrivals }
-        ensures others { OnOk result ((q : Place) (from past : ℕ) →
-            known_of self.new.known.entries q ≡ Some (Known.Done from past) →
-            known_of self.old.known.entries q ≡ Some (Known.Done from past)) }
-    {
-        if self.known(place).is_some() {
-            frames.clear();
-            return Ok(());
-        }
-        self.set_known(place, Known::Begun)?;
-        frames.push(Frame { place, pin: 0 })?;
-        Ok(())
-    }
-
-    /// Works out a place, or begins with one that it needs.
-    fn go_on<W: CyclicWave<Item = Value>>(
-        &mut self,
-        view: &View<W>,
-        frames: &mut Frames,
-        frame: Frame,
-    ) -> Result<(), NoMemory>
-        requires { Sees view.now.circuit.now view.now.waves.now view.now.hazards.now }
-        ensures grows { OnOk result (Grows self.old.nodes self.new.nodes) }
-        ensures met { OnOk result (self.new.met.entries ≡ self.old.met.entries) }
-        ensures stays { OnOk result (StaysKnown self.old.known.entries self.new.known.entries) }
-        ensures exact { let c = view.now.circuit.now in let ws = waves_of view.now.waves.now in
-            OnOk result (KeepsArrivals c ws self.old.known.entries self.old.arrivals
-            self.new.known.entries self.new.arrivals) }
-    {
-        let Some((behind, pin)) = self.next_behind(view, frame) else {
-            return self.finish(view, frame.place);
-        };
-        frames.push(Frame { pin, ..frame })?;
-        self.begin_at(frames, behind)?;
-        Ok(())
-    }
-
-    /// Works out the arrivals at a place and at those that it needs, if that is not done.
-    #[tactic(auto, using(crate::proofs::Arriving::grows_none))]
-    pub fn work_out<W: CyclicWave<Item = Value>>(
-        &mut self,
-        view: &View<W>,
-        place: Place,
-    ) -> Result<(), NoMemory>
-        requires { Sees view.now.circuit.now view.now.waves.now view.now.hazards.now }
-        ensures knows { OnOk result (Knows view.now.circuit.now (waves_of view.now.waves.now)
-            self.old.nodes self.old.met.entries →
-            Knows view.now.circuit.now (waves_of view.now.waves.now)
-            self.new.nodes self.new.met.entries) }
-        ensures grows { OnOk result (Grows self.old.nodes self.new.nodes) }
-        ensures met { OnOk result (self.new.met.entries ≡ self.old.met.entries) }
-        ensures known { OnOk result (is_some (known_of self.new.known.entries place) ≡ true) }
-        ensures stays { OnOk result (StaysKnown self.old.known.entries self.new.known.entries) }
-        ensures exact { let c = view.now.circuit.now in let ws = waves_of view.now.waves.now in
-            OnOk result (KeepsArrivals c ws self.old.known.entries self.old.arrivals
-            self.new.known.entries self.new.arrivals) }
-    {
-        if self.known(place).is_some() {
-            return Ok(());
-        }
-        let mut frames = Frames::new(view.alloc);
-        self.begin_at(&mut frames, place)?;
-        'places: for _step in 0..STEPS {
-            let Some(frame) = frames.pop() else {
-                return Ok(());
-            };
-            self.go_on(view, &mut frames, frame)?;
-        }
         Ok(())
     }
 
@@ -344,6 +254,14 @@ impl Paths {
         } else {
             None
         }
+    }
+
+    /// An arrival by its number, with its event.
+    pub(crate) fn near_at(&self, number: usize) -> Near
+        requires { number < length self.now.arrivals }
+        ensures { slice_get self.now.arrivals number ≡ Some result }
+    {
+        self.arrivals.as_slice()[number]
     }
 
     /// An arrival, by where it stands among all.

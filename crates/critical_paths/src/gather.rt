@@ -1,6 +1,7 @@
 //! The arrivals at a place, from those at the places behind the pins of its driver.
 
-ghost use Rattle.std.specs.Prelude.{◌≡◌, ◌==◌, ◌++◌, ◌∷◌, ◌<◌, ◌≤◌, [], ◌^◌, true, fold, length, map, slice_get, slice_set, if◌then◌else◌, IfNone, IfOk, IfSome, List, None, OnOk, Option, Some};
+ghost use Rattle.std.specs.Prelude.{◌≡◌, ℕ, ◌+◌, ◌*◌, ◌+ℤ◌, ◌==◌, ◌++◌, ◌∷◌, ◌<◌, ◌≤◌, [], ◌^◌, true, fold, is_some, length, map, slice_get, slice_set, if◌then◌else◌, IfNone, IfOk, IfSome, List, None, OnOk, Option, Some};
+ghost use Rattle.std.specs.List.{All};
 ghost use Rattle.std.specs.Option.{option_map};
 ghost use Rattle.std.specs.Ordering.{int_eq};
 ghost use Rattle.flat_circuit.specs.Circuit.{driver as driver_of};
@@ -8,10 +9,12 @@ ghost use Rattle.flat_circuit.specs.Instances.{InstanceFits};
 ghost use Rattle.fixpoint_engine.specs.Waves.{waves_of};
 ghost use Rattle.critical_paths.specs.declared.gather.Reached.{Reached};
 ghost use Rattle.critical_paths.specs.declared.near.Near.{Near};
+ghost use Rattle.critical_paths.specs.declared.path.Node.{Node};
 ghost use Rattle.critical_paths.specs.Arrival.{source_arrivals};
-ghost use Rattle.critical_paths.specs.Tick.{is_further};
-ghost use Rattle.critical_paths.specs.Known.{IsShort};
-ghost use Rattle.critical_paths.specs.Reached.{AreArrivals, AddsThrough, AreThrough, IsFirstOf, IsOfNone, KnowsArrivals, end_time, gathered, later, of_clock, time_of, times_in, with_later, with_one, with_time};
+ghost use Rattle.critical_paths.specs.Tick.{IsWithin, is_further};
+ghost use Rattle.critical_paths.specs.Known.{IsNear, IsShort, node_before};
+ghost use Rattle.critical_paths.specs.Launch.{ticks_of};
+ghost use Rattle.critical_paths.specs.Reached.{AddsOnly, AddsThrough, AreArrivals, AreDoneBehind, AreExact, AreThrough, AreWays, HasWay, HaveWays, IsBehind, IsEdgeRegion, IsFew, IsFirstOf, IsOfNone, end_time, gathered, is_done, later, of_clock, time_of, times_in, with_later, with_one, with_time};
 ghost use Rattle.critical_paths.specs.Views.{Sees};
 
 use crate::arrival::{Known, Place, is_net, place_behind};
@@ -83,8 +86,9 @@ fn set_further(out: &mut AllReached, corner: Corner, at: usize, reached: Reached
 
 /// Adds an arrival, or puts it in the place of one of its edge that is not as far.
 fn merge(out: &mut AllReached, corner: Corner, reached: Reached) -> Result<(), NoMemory>
-    ensures { OnOk result (gathered out.new
+    ensures gathered { OnOk result (gathered out.new
         ≡ with_time corner (gathered out.old) (time_of reached)) }
+    ensures only { OnOk result (AddsOnly reached out.old out.new) }
 {
     match place_of(out.as_slice(), reached) {
         Some(at) => set_further(out, corner, at, reached),
@@ -93,60 +97,67 @@ fn merge(out: &mut AllReached, corner: Corner, reached: Reached) -> Result<(), N
     Ok(())
 }
 
-/// Adds the arrival of an edge of the clock at the clock itself, at the end of a region; `false`
-/// if that is further than any can be.
+/// Adds the arrival of an edge of the clock at the clock itself, at the end of a region.
 fn add_edge<W: CyclicWave<Item = Value>>(
     view: &View<W>,
     place: Place,
     region: Region,
     out: &mut AllReached,
-) -> Result<bool, NoMemory>
-    requires { driver_of view.now.circuit.now place.net ≡ None }
-    ensures { IfOk result (λ fits. fits ≡ true → gathered out.new
+) -> Result<(), NoMemory>
+    requires input { driver_of view.now.circuit.now place.net ≡ None }
+    requires edge { IsEdgeRegion view.now.circuit.now (waves_of view.now.waves.now) place region }
+    ensures gathered { OnOk result (gathered out.new
         ≡ gathered out.old ++ end_time view.now.circuit.now place region ∷ []) }
+    ensures ways { let c = view.now.circuit.now in let ws = waves_of view.now.waves.now in
+        (nodes : List Node) → place.net ≡ place.clock →
+        OnOk result (AreWays c ws nodes place out.old → AreWays c ws nodes place out.new) }
 {
     let tick = region.end(place.corner);
     let stop = place.stop(view.slot(tick));
     let event = source(view, stop);
-    let Some(near) = Near::begun(tick, event.age) else {
-        return Ok(false);
-    };
+    let near = Near::begun(tick, event.age);
     out.push(Reached { event, near })?;
-    Ok(true)
+    Ok(())
 }
 
-/// Adds those at the ends of some regions; `false` if one is further than any can be.
+/// Adds those at the ends of some regions.
 fn add_each<W: CyclicWave<Item = Value>>(
     view: &View<W>,
     place: Place,
     regions: &[Region],
     out: &mut AllReached,
-) -> Result<bool, NoMemory>
-    requires { driver_of view.now.circuit.now place.net ≡ None }
-    ensures { IfOk result (λ fits. fits ≡ true → gathered out.new
+) -> Result<(), NoMemory>
+    requires input { driver_of view.now.circuit.now place.net ≡ None }
+    requires edges { All (IsEdgeRegion view.now.circuit.now (waves_of view.now.waves.now) place)
+        regions.now }
+    ensures gathered { OnOk result (gathered out.new
         ≡ gathered out.old ++ map (end_time view.now.circuit.now place) regions.now) }
+    ensures ways { let c = view.now.circuit.now in let ws = waves_of view.now.waves.now in
+        (nodes : List Node) → place.net ≡ place.clock →
+        OnOk result (AreWays c ws nodes place out.old → AreWays c ws nodes place out.new) }
 {
     for region in regions {
-        if !add_edge(view, place, *region, out)? {
-            return Ok(false);
-        }
+        add_edge(view, place, *region, out)?;
     }
-    Ok(true)
+    Ok(())
 }
 
-/// Adds the arrivals at the clock itself; `false` if one is further than any can be.
+/// Adds the arrivals at the clock itself.
 fn add_edges<W: CyclicWave<Item = Value>>(
     view: &View<W>,
     place: Place,
     out: &mut AllReached,
-) -> Result<bool, NoMemory>
+) -> Result<(), NoMemory>
     requires sees { Sees view.now.circuit.now view.now.waves.now view.now.hazards.now }
     requires net { place.net < length view.now.circuit.now.nets }
     requires input { driver_of view.now.circuit.now place.net ≡ None }
-    ensures { IfOk result (λ fits. fits ≡ true → place.net ≡ place.clock → gathered out.new
+    ensures gathered { OnOk result (place.net ≡ place.clock → gathered out.new
         ≡ gathered out.old ++ of_clock place.clock
         (source_arrivals view.now.circuit.now (waves_of view.now.waves.now) place.corner
         place.direction place.net)) }
+    ensures ways { let c = view.now.circuit.now in let ws = waves_of view.now.waves.now in
+        (nodes : List Node) → place.net ≡ place.clock →
+        OnOk result (AreWays c ws nodes place out.old → AreWays c ws nodes place out.new) }
 {
     // no period is short
     let _period = view.period();
@@ -154,10 +165,10 @@ fn add_edges<W: CyclicWave<Item = Value>>(
     let changes = slots_of(view.alloc, &fold, Test::May(place.direction))?;
     // what may change in every slot has no edge
     if changes.are_all {
-        return Ok(true);
+        return Ok(());
     }
-    let fits = add_each(view, place, changes.regions.as_slice(), out)?;
-    Ok(fits)
+    add_each(view, place, changes.regions.as_slice(), out)?;
+    Ok(())
 }
 
 impl Paths {
@@ -165,6 +176,10 @@ impl Paths {
     /// any can be.
     fn after(&self, stop: Stop, passage: Passage, next: usize) -> Option<Node>
         requires { IsShort passage }
+        ensures is { IfSome result (λ node. option_map (node_before stop passage next)
+            (slice_get self.now.nodes next) ≡ Some node) }
+        ensures some { (n : Node) → slice_get self.now.nodes next ≡ Some n → n.count ≤ 2 ^ 24 →
+            IsNear (131072 * n.count) n.age → is_some result ≡ true }
     {
         let before = self.nodes.get(next)?;
         if before.count > LONGEST {
@@ -180,20 +195,17 @@ impl Paths {
     /// than any can be.
     fn reached(&self, stop: Stop, passage: Passage, behind: Near) -> Option<Reached>
         requires { IsShort passage }
-        ensures { IfSome result (λ found. time_of found
+        ensures time { IfSome result (λ found. time_of found
             ≡ later passage (behind.ideal, behind.tick)) }
+        ensures event { IfSome result (λ found. option_map (node_before stop passage behind.node)
+            (slice_get self.now.nodes behind.node) ≡ Some found.event) }
+        ensures some { (n : Node) → slice_get self.now.nodes behind.node ≡ Some n →
+            n.count ≤ 2 ^ 24 → IsNear (131072 * n.count) n.age →
+            IsWithin (2 ^ 46) (behind.tick +ℤ ticks_of passage) → is_some result ≡ true }
     {
         let near = behind.later(passage.ticks())?;
         let event = self.after(stop, passage, behind.node)?;
         Some(Reached { event, near })
-    }
-
-    /// The arrival of a number.
-    fn near_at(&self, number: usize) -> Near
-        requires { number < length self.now.arrivals }
-        ensures { slice_get self.now.arrivals number ≡ Some result }
-    {
-        self.arrivals.as_slice()[number]
     }
 
     /// Adds that of a number by a passage, if the net may make such a step at its tick; `false` if
@@ -210,11 +222,21 @@ impl Paths {
         requires net { place.net < length view.now.circuit.now.nets }
         requires passage { IsShort passage }
         requires number { number < length self.now.arrivals }
-        ensures { let c = view.now.circuit.now in let ws = waves_of view.now.waves.now in
+        ensures gathered { let c = view.now.circuit.now in let ws = waves_of view.now.waves.now in
             IfOk result (λ fits. fits ≡ true → (behind : Near) →
             slice_get self.now.arrivals number ≡ Some behind → gathered out.new
             ≡ with_one c ws place (gathered out.old)
             (later passage (behind.ideal, behind.tick))) }
+        ensures ways { let c = view.now.circuit.now in let ws = waves_of view.now.waves.now in
+            OnOk result ((b : Place) (behind : Near) → IsBehind c place (b, passage) →
+            slice_get self.now.arrivals number ≡ Some behind →
+            HasWay c ws self.now.nodes b behind →
+            AreWays c ws self.now.nodes place out.old →
+            AreWays c ws self.now.nodes place out.new) }
+        ensures fits { let c = view.now.circuit.now in let ws = waves_of view.now.waves.now in
+            IfOk result (λ fits. (b : Place) (behind : Near) → IsFew c ws b →
+            slice_get self.now.arrivals number ≡ Some behind →
+            HasWay c ws self.now.nodes b behind → fits ≡ true) }
     {
         let behind = self.near_at(number);
         let tick = behind.tick_after(passage.ticks());
@@ -243,10 +265,19 @@ impl Paths {
         requires passage { IsShort passage }
         requires ordered { numbers.0 ≤ numbers.1 }
         requires numbers { numbers.1 ≤ length self.now.arrivals }
-        ensures { let c = view.now.circuit.now in let ws = waves_of view.now.waves.now in
+        ensures gathered { let c = view.now.circuit.now in let ws = waves_of view.now.waves.now in
             IfOk result (λ fits. fits ≡ true → gathered out.new
             ≡ fold (with_later c ws place passage) (gathered out.old)
             (times_in self.now.arrivals numbers.0 numbers.1)) }
+        ensures ways { let c = view.now.circuit.now in let ws = waves_of view.now.waves.now in
+            OnOk result ((b : Place) → IsBehind c place (b, passage) →
+            HaveWays c ws self.now.nodes b self.now.arrivals numbers.0 numbers.1 →
+            AreWays c ws self.now.nodes place out.old →
+            AreWays c ws self.now.nodes place out.new) }
+        ensures fits { let c = view.now.circuit.now in let ws = waves_of view.now.waves.now in
+            IfOk result (λ fits. (b : Place) → IsFew c ws b →
+            HaveWays c ws self.now.nodes b self.now.arrivals numbers.0 numbers.1 →
+            fits ≡ true) }
     {
         let (from, to) = numbers;
         for number in from..to {
@@ -269,10 +300,17 @@ impl Paths {
         requires sees { Sees view.now.circuit.now view.now.waves.now view.now.hazards.now }
         requires net { place.net < length view.now.circuit.now.nets }
         requires passage { IfSome behind (λ found. IsShort found.1) }
-        ensures { let c = view.now.circuit.now in let ws = waves_of view.now.waves.now in
-            KnowsArrivals c ws self.now.known.entries self.now.arrivals →
-            IfOk result (λ fits. fits ≡ true →
+        ensures gathered { let c = view.now.circuit.now in let ws = waves_of view.now.waves.now in
+            AreExact c ws self.now → IfOk result (λ fits. fits ≡ true →
             AddsThrough c ws place behind (gathered out.old) (gathered out.new)) }
+        ensures ways { let c = view.now.circuit.now in let ws = waves_of view.now.waves.now in
+            AreExact c ws self.now → OnOk result (IfSome behind (IsBehind c place) →
+            AreWays c ws self.now.nodes place out.old →
+            AreWays c ws self.now.nodes place out.new) }
+        ensures fits { let c = view.now.circuit.now in let ws = waves_of view.now.waves.now in
+            AreExact c ws self.now → IfOk result (λ fits.
+            IfSome behind (λ found. (is_done self.now.known.entries found.0 ≡ true)
+            × IsFew c ws found.0) → fits ≡ true) }
     {
         let Some((behind, passage)) = behind else {
             return Ok(true);
@@ -296,10 +334,18 @@ impl Paths {
         requires net { place.net < length view.now.circuit.now.nets }
         requires fits { InstanceFits view.now.circuit.now.header
             (length view.now.circuit.now.nets) element.now }
-        ensures { let c = view.now.circuit.now in let ws = waves_of view.now.waves.now in
-            KnowsArrivals c ws self.now.known.entries self.now.arrivals →
-            IfOk result (λ fits. fits ≡ true → AreThrough c ws element.now place
+        requires driven { driver_of view.now.circuit.now place.net ≡ Some element.now }
+        ensures gathered { let c = view.now.circuit.now in let ws = waves_of view.now.waves.now in
+            AreExact c ws self.now → IfOk result (λ fits. fits ≡ true →
+            AreThrough c ws element.now place
             (length element.now.pins) (gathered out.old) (gathered out.new)) }
+        ensures ways { let c = view.now.circuit.now in let ws = waves_of view.now.waves.now in
+            AreExact c ws self.now → OnOk result (
+            AreWays c ws self.now.nodes place out.old →
+            AreWays c ws self.now.nodes place out.new) }
+        ensures fits { let c = view.now.circuit.now in let ws = waves_of view.now.waves.now in
+            AreExact c ws self.now → IsFew c ws place →
+            AreDoneBehind c self.now.known.entries place → IfOk result (λ fits. fits ≡ true) }
     {
         for number in 0..element.pins.len() {
             let behind = place_behind(view.circuit, element, place, number);
@@ -319,9 +365,15 @@ impl Paths {
         out: &mut AllReached,
     ) -> Result<bool, NoMemory>
         requires { Sees view.now.circuit.now view.now.waves.now view.now.hazards.now }
-        ensures { let c = view.now.circuit.now in let ws = waves_of view.now.waves.now in
-            KnowsArrivals c ws self.now.known.entries self.now.arrivals → gathered out.old ≡ [] →
+        ensures are { let c = view.now.circuit.now in let ws = waves_of view.now.waves.now in
+            AreExact c ws self.now → out.old ≡ [] →
             IfOk result (λ fits. fits ≡ true → AreArrivals c ws place (gathered out.new)) }
+        ensures ways { let c = view.now.circuit.now in let ws = waves_of view.now.waves.now in
+            AreExact c ws self.now → out.old ≡ [] →
+            OnOk result (AreWays c ws self.now.nodes place out.new) }
+        ensures fits { let c = view.now.circuit.now in let ws = waves_of view.now.waves.now in
+            AreExact c ws self.now → IsFew c ws place →
+            AreDoneBehind c self.now.known.entries place → IfOk result (λ fits. fits ≡ true) }
     {
         // no period is short
         let _period = view.period();
@@ -337,8 +389,8 @@ impl Paths {
                 if !place.is_at_clock() {
                     return Ok(true);
                 }
-                let fits = add_edges(view, place, out)?;
-                Ok(fits)
+                add_edges(view, place, out)?;
+                Ok(true)
             }
         }
     }

@@ -39,6 +39,7 @@ mod walk;
 // what is made of them
 mod arrival;
 mod common;
+mod frames;
 mod gather;
 mod near;
 

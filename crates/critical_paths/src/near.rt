@@ -1,6 +1,6 @@
 //! Arrivals near the first period.
 
-ghost use Rattle.std.specs.Prelude.{◌≡◌, ◌^◌, ◌+ℤ◌, ◌-ℤ◌, IfSome};
+ghost use Rattle.std.specs.Prelude.{◌≡◌, ◌^◌, ◌+ℤ◌, ◌-ℤ◌, IfSome, is_some, true};
 ghost use Rattle.critical_paths.specs.Tick.{IsWithin};
 ghost use Rattle.critical_paths.specs.Known.{IsNear};
 
@@ -23,8 +23,10 @@ pub(crate) struct Near {
 impl Near {
     /// The arrival of an edge at a tick, unless it is too far.
     fn at(ideal: i64, tick: i64, node: usize) -> Option<Near>
-        ensures { IfSome result (λ near. (near.ideal ≡ ideal) × (near.tick ≡ tick)
+        ensures is { IfSome result (λ near. (near.ideal ≡ ideal) × (near.tick ≡ tick)
             × (near.node ≡ node)) }
+        ensures some { IsWithin (2 ^ 46) ideal → IsWithin (2 ^ 46) tick →
+            is_some result ≡ true }
     {
         if ideal.unsigned_abs() <= FAR && tick.unsigned_abs() <= FAR {
             Some(Near { ideal, tick, node })
@@ -34,10 +36,16 @@ impl Near {
     }
 
     /// The arrival of an edge that lies so many ticks before it.
-    pub(crate) fn begun(tick: i64, age: i64) -> Option<Near>
-        ensures { IfSome result (λ near. (near.ideal ≡ tick -ℤ age) × (near.tick ≡ tick)) }
+    pub(crate) fn begun(tick: i64, age: i64) -> Near
+        requires tick { IsNear 131072 tick }
+        requires age { IsNear 131072 age }
+        ensures { (result.ideal ≡ tick -ℤ age) × (result.tick ≡ tick) }
     {
-        Near::at(tick.checked_sub(age)?, tick, 0)
+        Near {
+            ideal: tick - age,
+            tick,
+            node: 0,
+        }
     }
 
     /// The tick so many later.
@@ -51,8 +59,9 @@ impl Near {
     /// The same edge so many ticks later, unless that is too far.
     pub(crate) fn later(self, ticks: i64) -> Option<Near>
         requires { IsNear 131072 ticks }
-        ensures { IfSome result (λ near. (near.ideal ≡ self.ideal)
+        ensures is { IfSome result (λ near. (near.ideal ≡ self.ideal)
             × (near.tick ≡ self.tick +ℤ ticks) × (near.node ≡ self.node)) }
+        ensures some { IsWithin (2 ^ 46) (self.tick +ℤ ticks) → is_some result ≡ true }
     {
         Near::at(self.ideal, self.tick_after(ticks), self.node)
     }

@@ -10,7 +10,7 @@ ghost use Rattle.critical_paths.specs.Path.{choices, is_tight};
 ghost use Rattle.critical_paths.specs.Cause.{held_pin as held_of_all};
 ghost use Rattle.critical_paths.specs.Tick.{IsWithin, most_tick, slot_of};
 ghost use Rattle.critical_paths.specs.Unfolded.{before_many, end_delay as end_delay_of, end_word as end_word_of, is_moving as is_moving_pin, mover as mover_of, one_of, open_arc, open_before, open_cause, read_by, same_if_tight, with_word};
-ghost use Rattle.critical_paths.specs.Views.{Sees, arc_of, arc_with_word, read_of};
+ghost use Rattle.critical_paths.specs.Views.{Sees, arc_of, arc_with_word, end_asked, read_of};
 
 use crate::back::{Arc, Back, folded, own_delay, pin_at};
 use crate::cause::{Asked, Cause, made_by};
@@ -243,8 +243,7 @@ impl<'a, W: CyclicWave<Item = Value>> View<'a, W> {
         ensures { let c = self.now.circuit.now in let j = asked.entry.element.now in
             IfOk result (λ found. option_map arc_with_word found
             ≡ open_arc c (waves_of self.now.waves.now) j
-            asked.entry.corner asked.entry.direction
-            (slot_of (period c.header) asked.entry.tick) j.split delay place by) }
+            (end_asked (period c.header) asked.entry delay) place by) }
     {
         self.circuit.header().known();
         delay.known();
@@ -273,9 +272,7 @@ impl<'a, W: CyclicWave<Item = Value>> View<'a, W> {
         ensures { let c = self.now.circuit.now in let j = asked.entry.element.now in
             IfOk result (λ found. option_map arc_with_word found
             ≡ first_some (open_arc c (waves_of self.now.waves.now) j
-            asked.entry.corner asked.entry.direction
-            (slot_of (period c.header) asked.entry.tick) j.split delay place)
-            (choices delay) 0) }
+            (end_asked (period c.header) asked.entry delay) place) (choices delay) 0) }
     {
         self.circuit.header().known();
         delay.known();
@@ -334,8 +331,7 @@ impl<'a, W: CyclicWave<Item = Value>> View<'a, W> {
         ensures { let c = self.now.circuit.now in let j = asked.entry.element.now in
             IfOk result (λ found. option_map (read_of (period c.header)) found
             ≡ before_many c (waves_of self.now.waves.now) j
-            asked.entry.corner asked.entry.direction
-            (slot_of (period c.header) asked.entry.tick) j.split delay) }
+            (end_asked (period c.header) asked.entry delay)) }
     {
         delay.known();
         let found = self.arc_at(asked, delay, 0)?;
@@ -353,9 +349,8 @@ impl<'a, W: CyclicWave<Item = Value>> View<'a, W> {
         ensures { let c = self.now.circuit.now in let ws = waves_of self.now.waves.now in let j
             = asked.entry.element.now in
             IfOk result (λ found. option_map (read_of (period c.header)) found ≡ read_by c ws j
-            asked.entry.corner asked.entry.direction
-            (slot_of (period c.header) asked.entry.tick) j.split
-            (end_delay_of j.delay asked.entry.direction j.split) (mover_of c ws j)) }
+            (end_asked (period c.header) asked.entry
+            (end_delay_of j.delay asked.entry.direction j.split)) (mover_of c ws j)) }
     {
         let delay = end_delay(asked.element, asked.direction);
         let held = self.held_pin(asked.number, asked.element);

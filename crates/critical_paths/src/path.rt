@@ -255,6 +255,8 @@ impl Paths {
           length
               self.old.nodes,
         ) ∷ []) }
+        ensures known { OnOk result (self.new.known.entries ≡ self.old.known.entries) }
+        ensures arrivals { OnOk result (self.new.arrivals ≡ self.old.arrivals) }
     {
         let number = self.nodes.len();
         self.push(node)?;
@@ -303,6 +305,8 @@ impl Paths {
               self.old.nodes,
         ) ∷ []) }
         ensures near { IsNear 131072 (ticks_of passage) }
+        ensures known { OnOk result (self.new.known.entries ≡ self.old.known.entries) }
+        ensures arrivals { OnOk result (self.new.arrivals ≡ self.old.arrivals) }
     {
         let node = self.before(stop, passage, next);
         self.enter(node)
@@ -320,6 +324,8 @@ impl Paths {
     pub(crate) fn push(&mut self, node: Node) -> Result<(), NoMemory>
         ensures nodes { OnOk result (self.new.nodes ≡ self.old.nodes ++ node ∷ []) }
         ensures met { self.new.met ≡ self.old.met }
+        ensures known { self.new.known.entries ≡ self.old.known.entries }
+        ensures arrivals { self.new.arrivals ≡ self.old.arrivals }
     {
         self.nodes.push(node)
     }
@@ -330,6 +336,8 @@ impl Paths {
         ensures nodes { self.new.nodes ≡ self.old.nodes }
         ensures met { OnOk result (self.new.met.entries ≡ self.old.met.entries ++ (stop, number) ∷
             []) }
+        ensures known { self.new.known.entries ≡ self.old.known.entries }
+        ensures arrivals { self.new.arrivals ≡ self.old.arrivals }
     {
         self.met.insert(stop, number)?;
         Ok(())

@@ -75,6 +75,8 @@ impl Paths {
         ensures nodes { OnOk result (IsRound self.old.nodes chain.now.entries first (length
             chain.now.entries) ticks self.new.nodes) }
         ensures met { self.new.met ≡ self.old.met }
+        ensures known { OnOk result (self.new.known.entries ≡ self.old.known.entries) }
+        ensures arrivals { OnOk result (self.new.arrivals ≡ self.old.arrivals) }
     {
         let base = self.nodes.as_slice().len();
         let past = chain.len();
@@ -102,6 +104,8 @@ impl Paths {
         ensures nodes { self.new.nodes ≡ self.old.nodes }
         ensures met { OnOk result (IsNumbered self.old.met.entries chain.now.entries first base
             (length chain.now.entries) self.new.met.entries) }
+        ensures known { OnOk result (self.new.known.entries ≡ self.old.known.entries) }
+        ensures arrivals { OnOk result (self.new.arrivals ≡ self.old.arrivals) }
     {
         for place in first..chain.len() {
             if let Some((stop, _)) = chain.get_index(place) {
@@ -130,6 +134,8 @@ impl Paths {
         ensures begun { IfOk result (IsBegun view.now.circuit.now (waves_of view.now.waves.now)
             self.new.nodes self.new.met.entries chain.now.entries stop) }
         ensures grows { OnOk result (Grows self.old.nodes self.new.nodes) }
+        ensures known { OnOk result (self.new.known.entries ≡ self.old.known.entries) }
+        ensures arrivals { OnOk result (self.new.arrivals ≡ self.old.arrivals) }
     {
         // no path is long, since no period is
         let _period = view.period();
@@ -170,6 +176,8 @@ impl Paths {
             chain.now.entries stop 0))) }
         ensures has { IfOk result (λ n. Has self.new.met.entries (stop_after chain.now.entries stop
             0) n) }
+        ensures known { OnOk result (self.new.known.entries ≡ self.old.known.entries) }
+        ensures arrivals { OnOk result (self.new.arrivals ≡ self.old.arrivals) }
     {
         // no path is long, since no period is
         let _period = view.period();
@@ -198,6 +206,8 @@ impl Paths {
         ensures path { IfOk result (λ n. path_known self.new.nodes n
             ≡ Some (path_of_stop view.now.circuit.now (waves_of view.now.waves.now) start)) }
         ensures has { IfOk result (λ n. Has self.new.met.entries start n) }
+        ensures known { OnOk result (self.new.known.entries ≡ self.old.known.entries) }
+        ensures arrivals { OnOk result (self.new.arrivals ≡ self.old.arrivals) }
     {
         let mut chain = Chain::new(view.alloc);
         let (halt, stop) = self.walk(view, &mut chain, start)?;
@@ -232,6 +242,8 @@ impl<'a, W: CyclicWave<Item = Value>> View<'a, W> {
             edge_in paths.new.nodes at ≡ option_map edge_pair (option_and_then (edge_of c
             event.corner at.tick)
             (path_known paths.new.nodes at.node))) }
+        ensures known { OnOk result (paths.new.known.entries ≡ paths.old.known.entries) }
+        ensures arrivals { OnOk result (paths.new.arrivals ≡ paths.old.arrivals) }
     {
         // no path is long, since no period is
         let _period = self.period();
@@ -266,6 +278,8 @@ impl<'a, W: CyclicWave<Item = Value>> View<'a, W> {
             edge_in paths.new.nodes path ≡ option_map edge_pair (option_and_then (edge_of c
             at.corner path.tick)
             (path_known paths.new.nodes path.node)))) }
+        ensures known { OnOk result (paths.new.known.entries ≡ paths.old.known.entries) }
+        ensures arrivals { OnOk result (paths.new.arrivals ≡ paths.old.arrivals) }
     {
         let Some(behind) = self.behind(at) else {
             return Ok(None);
@@ -297,6 +311,8 @@ impl<'a, W: CyclicWave<Item = Value>> View<'a, W> {
         ensures corner { IfOk result (λ found. IfSome found (λ path.
             corner_in paths.new.nodes path ≡ Some at.corner)) }
         ensures short { IfOk result (λ found. IfSome found (IsShortPath paths.new.nodes)) }
+        ensures known { OnOk result (paths.new.known.entries ≡ paths.old.known.entries) }
+        ensures arrivals { OnOk result (paths.new.arrivals ≡ paths.old.arrivals) }
     {
         // there is a slot, since each period has one
         let _period = self.period();

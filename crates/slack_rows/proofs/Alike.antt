@@ -19,7 +19,7 @@ use Rattle.slack_rows.proofs.Findings.{finding_slack}
 
 -- ---- the lesser of two
 
-and_true : (a : Bool) → a ≡ (a && true)
+pub and_true : (a : Bool) → a ≡ (a && true)
 and_true true = refl
 and_true false = refl
 

@@ -7,6 +7,7 @@ use Rattle.slack_rows.specs.declared.parameter.Parameter.{Parameter}
 use Rattle.slack_rows.specs.declared.parameter.Word.{Word as Limit}
 use Rattle.slack_rows.specs.declared.rows.Least.{Least}
 use Rattle.slack_rows.specs.Rows.{all_limits, partner}
+use Rattle.slack_rows.proofs.Exactly.{no_cases}
 use Rattle.slack_rows.specs.Known.{AreKnown, BreaksBoth, IsKnown, IsNumbered, breaks, least_at, places_of, places_within}
 
 -- ---- no case
@@ -51,6 +52,7 @@ known_none c limits least n are is long =
       are_numbers = refl;
       are_sets = λ k. omega arith;
       numbered = λ i found at. subst (IsNumbered []) (sym (none i found at)) tt;
+      exact = λ i q found at here. no_cases c q found (none i found here);
       each = λ i q found at here sure. subst (IsKnown c [] [] q) (sym (none i found here)) refl;
       free = λ i q found at here. ap (λ (o : Option Least). is_none o) (none i found here);
       alone = λ i q found at here two. ap breaks (none i found here);

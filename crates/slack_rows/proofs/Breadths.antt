@@ -1,7 +1,8 @@
 -- What is told of the narrowest pulse of a wave.
 use Rattle.std.proofs.Common.{◌≡◌, ℕ, List, [], length, Bool, true, false, ◌&&◌, cond, refl, sym, ap, subst, ◌∙◌, arith, Option, Some, None}
-use Rattle.std.specs.Prelude.{ℤ, pos, ◌+ℤ◌, ◌-ℤ◌, ◌==◌, int_le, nat_lt, slice_get, unsigned_abs}
+use Rattle.std.specs.Prelude.{ℤ, pos, ◌+ℤ◌, ◌-ℤ◌, ◌==◌, int_le, nat_lt, slice_get, unsigned_abs, unwrap_or}
 use Rattle.std.specs.List.{All}
+use Rattle.std.specs.Option.{option_map}
 use Rattle.std.proofs.lemmas.List.{get_or-map}
 use Rattle.std.proofs.lemmas.List.Elements.{All-get_or}
 use Rattle.std.proofs.lemmas.Option.{get_or_from_slice_get, slice_get_within}
@@ -31,8 +32,8 @@ use Rattle.slack_rows.specs.declared.slack.Slack.TheVariants.{Ticks as NumberOfT
 use Rattle.slack_rows.specs.declared.slack.Finding.{Finding as Found}
 use Rattle.slack_rows.specs.declared.window.Window.{Window as Ticks}
 use Rattle.slack_rows.specs.Slack.{InPulse, Place, Ticks as TicksLeft, Finding, finding_at, finding_of}
-use Rattle.slack_rows.specs.Pulse.{Pulse, left_at, left_by, left_if, left_in, left_of, left_on, left_once, may_change_again, narrowest, finding_wave, width_of}
-use Rattle.slack_rows.specs.Views.{IsNear, IsFinding, in_pulse, place_by, place_of, slack_by, finding_by_found}
+use Rattle.slack_rows.specs.Pulse.{Pulse, begins_at, begins_on, left_at, left_by, left_if, left_in, left_of, left_on, left_once, may_change_again, narrowest, finding_wave, width_of}
+use Rattle.slack_rows.specs.Views.{IsNear, IsFinding, IsPulseWindow, in_pulse, place_by, place_of, pulse_begin, slack_by, finding_by_found}
 
 -- ---- how wide it is
 
@@ -145,6 +146,39 @@ module _ (c : Circuit) (ws : Waves) (level : Bool) (pin : Pin) (i : ℕ) (on : p
 
 pub left_constant : (c : Circuit) (ws : Waves) (level one : Bool) (pin : Pin) → pin.target ≡ Constant one → None ≡ left_at c ws level pin
 left_constant c ws level one pin is = sym (ap (left_on c ws (turned pin.inverted level)) is)
+
+pub begin_constant : (c : Circuit) (ws : Waves) (level one : Bool) (pin : Pin) → pin.target ≡ Constant one → None ≡ begins_at c ws level pin
+begin_constant c ws level one pin is = sym (ap (begins_on c ws (turned pin.inverted level)) is)
+
+-- a pulse that begins later
+pub begin_later : (found : Option (ℤ × ℤ)) (wire : ℕ) →
+    option_map (λ (left : ℤ × ℤ). left.0 +ℤ pos wire) found
+    ≡ option_map (λ begin. begin +ℤ pos wire) (option_map (λ (left : ℤ × ℤ). left.0) found)
+begin_later None wire = refl
+begin_later (Some left) wire = refl
+
+-- ---- when a pulse begins
+
+-- in its slot
+pub window_here : (limit : ℕ) (late : Option ℤ) (n : ℕ) (found : Found) (w : Ticks) (b : By) →
+    w.first ≡ pos n → found.slack ≡ NumberOfTicks (w.last -ℤ w.first -ℤ pos limit) → found.window ≡ w →
+    found.tick ≡ pos n → found.by ≡ b → pulse_begin late (pos n) b ≡ pos n → IsPulseWindow limit late found
+window_here limit late n found w b first slack window tick way here =
+    record {
+      first = ap (λ (x : Ticks). x.first) window ∙ first ∙ sym here ∙ sym (λ i. pulse_begin late (tick i) (way i));
+      slack = slack ∙ sym (ap (λ (x : Ticks). NumberOfTicks (x.last -ℤ x.first -ℤ pos limit)) window);
+    }
+
+-- or as late as it may, if it may be swallowed
+pub window_late : (limit : ℕ) (late : Option ℤ) (n : ℕ) (begin : ℤ) (found : Found) (w : Ticks) →
+    late ≡ Some begin → w.first ≡ begin → found.slack ≡ NumberOfTicks (w.last -ℤ w.first -ℤ pos limit) →
+    found.window ≡ w → found.by ≡ Swallowed → IsPulseWindow limit late found
+window_late limit late n begin found w at first slack window way =
+    record {
+      first = ap (λ (x : Ticks). x.first) window ∙ first
+          ∙ sym (ap (pulse_begin late found.tick) way ∙ ap (λ (o : Option ℤ). unwrap_or o found.tick) at);
+      slack = slack ∙ sym (ap (λ (x : Ticks). NumberOfTicks (x.last -ℤ x.first -ℤ pos limit)) window);
+    }
 
 -- what drives a net fits
 pub driver_fits : (c : Circuit) (i : ℕ) (j : Instance) → IsCircuit c → driver c i ≡ Some j → InstanceFits c.header (length c.nets) j

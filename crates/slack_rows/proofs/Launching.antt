@@ -21,7 +21,8 @@ use Rattle.critical_paths.specs.Launch.{Edge, ago, ago_of, edge_by, edge_of, edg
 use Rattle.critical_paths.specs.Known.{Grows, IsShortPath, Knows, IsShortAt, ago_in, corner_in, corner_known, edge_in, edge_known, path_at, path_known, pin_path_by, known_by, edge_pair}
 use Rattle.slack_rows.specs.Views.{ahead_of}
 use Rattle.critical_paths.specs.declared.direction.Corner.TheVariants.{Late as LateCorner, Early as EarlyCorner}
-use Rattle.critical_paths.specs.declared.event.Stop.{Stop}
+use Rattle.critical_paths.specs.declared.path.Paths.{Paths}
+use Rattle.critical_paths.proofs.Exact.{knows_same}
 use Rattle.critical_paths.specs.Tick.{IsWithin, most_tick}
 use Rattle.critical_paths.specs.Views.{IsPin}
 use Rattle.std.specs.Prelude.{IfSome}
@@ -150,7 +151,7 @@ none_ago a b none = ap (λ (o : Option Edge). ago o b) none
 
 -- ---- when nodes come to others
 
-get_more : {X : Type 0} (xs ys : List X) (i : ℕ) (x : X) → slice_get xs i ≡ Some x → slice_get (xs ++ ys) i ≡ Some x
+pub get_more : {X : Type 0} (xs ys : List X) (i : ℕ) (x : X) → slice_get xs i ≡ Some x → slice_get (xs ++ ys) i ≡ Some x
 get_more [] ys i x is = absurd (cc)
 get_more (y ∷ xs) ys zero x is = is
 get_more (y ∷ xs) ys (suc i) x is = get_more xs ys i x is
@@ -250,13 +251,27 @@ found_edge c ws some corner pin d tick from nodes (Some at) same sum edge = edge
 
 -- ---- one path after another
 
-pub goes_then : (c : Circuit) (ws : Waves) (first second third : List Node) (met all : List (Stop × ℕ)) →
-    GoesOn c ws first second met → GoesOn c ws second third all → GoesOn c ws first third all
-goes_then c ws first second third met all one other =
-    record { knows = other.knows; grows = grows_on first second third one.grows other.grows }
+pub goes_then : (c : Circuit) (ws : Waves) (first second third : Paths) →
+    GoesOn c ws first second → GoesOn c ws second third → GoesOn c ws first third
+goes_then c ws first second third one other = record {
+  knows = other.knows;
+  grows = grows_on first.nodes second.nodes third.nodes one.grows other.grows;
+  keeps = λ exact. other.keeps (one.keeps exact);
+}
 
-pub goes_none : (c : Circuit) (ws : Waves) (nodes : List Node) (met : List (Stop × ℕ)) → Knows c ws nodes met → GoesOn c ws nodes nodes met
-goes_none c ws nodes met knows = record { knows = knows; grows = grows_none nodes }
+pub goes_none : (c : Circuit) (ws : Waves) (paths : Paths) → Knows c ws paths.nodes paths.met.entries →
+    GoesOn c ws paths paths
+goes_none c ws paths knows = record { knows = knows; grows = grows_none paths.nodes; keeps = λ exact. exact }
+
+-- a path that is worked out touches no arrival
+pub goes_same : (c : Circuit) (ws : Waves) (old new : Paths) → Knows c ws new.nodes new.met.entries →
+    Grows old.nodes new.nodes → new.known.entries ≡ old.known.entries → new.arrivals ≡ old.arrivals →
+    GoesOn c ws old new
+goes_same c ws old new knows grows known arrivals = record {
+  knows = knows;
+  grows = grows;
+  keeps = knows_same c ws old new grows arrivals known;
+}
 
 -- ---- the step that something is held against
 

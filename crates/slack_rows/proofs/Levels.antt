@@ -14,7 +14,8 @@ use Rattle.slack_rows.specs.Slack.{is_free}
 use Rattle.slack_rows.specs.Limit.{Case, least_finding}
 use Rattle.slack_rows.specs.Rows.{is_free_limit, limit_with, limits_at, limits_of, row, subjects}
 use Rattle.slack_rows.specs.Known.{AreKnown, free_by, least_at}
-use Rattle.slack_rows.proofs.Stepwise.{some_same}
+use Rattle.slack_rows.proofs.Alike.{and_true}
+use Rattle.slack_rows.proofs.Stepwise.{some_same, within_list}
 use Rattle.slack_rows.proofs.Totals.{at_0}
 
 -- ---- what stands so many places before
@@ -156,22 +157,12 @@ module _ (c : Circuit) where
     module _ (cases : List Case) (limits : List Parameter) (least : List (Option Least)) (numbers : List ℕ) (sets : List (ℕ × ℕ))
         (known : AreKnown c cases limits least numbers sets) where
       at_index : (i : ℕ) → i < length least → slice_get least i ≡ Some (slice_index_or least i None)
-      at_index i within = read least i within
-        where
-          read : (xs : List (Option Least)) (k : ℕ) → k < length xs → slice_get xs k ≡ Some (slice_index_or xs k None)
-          read [] k below = absurd (omega (arith, below))
-          read (x ∷ xs) zero below = refl
-          read (x ∷ xs) (suc k) below = read xs k (omega (arith, below))
-
-      below_limits : {A : Type 0} (xs : List A) (i : ℕ) (x : A) → slice_get xs i ≡ Some x → i < length xs
-      below_limits [] i x at = absurd (cc)
-      below_limits (y ∷ xs) zero x at = omega arith
-      below_limits (y ∷ xs) (suc i) x at = let below = below_limits xs i x at in omega (arith, below)
+      at_index i within = read_at least i None within
 
       free_index : (i : ℕ) (q : Parameter) → slice_get limits i ≡ Some q →
           is_none (slice_index_or least i None) ≡ is_free (least_finding c cases q.subject q.word).slack
       free_index i q at =
-          let within = below_limits limits i q at in
+          let within = within_list limits i q at in
           let long = known.count in
           known.free i q (slice_index_or least i None) at (at_index i (omega (arith, within, long)))
 
@@ -187,10 +178,6 @@ module _ (c : Circuit) where
 
       levels : HaveLevels limits
       levels = subst HaveLevels (sym known.are_limits) (of_all (subjects c))
-
-      and_true : (a : Bool) → a ≡ (a && true)
-      and_true true = refl
-      and_true false = refl
 
       pub free_place : (place : ℕ) (q : Parameter) → slice_get limits place ≡ Some q →
           free_by q.word least place ≡ is_free_limit c cases (row c cases q.subject q.word)
@@ -230,7 +217,7 @@ module _ (c : Circuit) where
           by b (is ∙ free_place place q at) more
         where
           within : place < length limits
-          within = below_limits limits place q at
+          within = within_list limits place q at
 
           own : slice_index_or limits place q ≡ q
           own = some_same (slice_index_or limits place q) q (slice_get limits place) (read_at limits place q within) at

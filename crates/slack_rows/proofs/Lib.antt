@@ -3,6 +3,7 @@ mod ExamplesWorked
 mod ExamplesEdges
 mod ExamplesOnce
 mod ExamplesLimits
+mod ExamplesSides
 pub mod Ordered
 pub mod Listed
 pub mod Broken
@@ -56,9 +57,14 @@ pub mod Keeping
 pub mod Forms
 pub mod Bounded
 pub mod Checking
+pub mod Inputs
+pub mod Guarding
 pub mod Alike
 pub mod Paired
 pub mod Once
 pub mod Blocks
 pub mod Sided
+pub mod Exactly
+pub mod Subjects
+pub mod Worst
 pub mod Merged

@@ -1,23 +1,27 @@
 -- What is told of each limit of a subject.
 use Rattle.std.proofs.Common.{◌≡◌, ℕ, zero, suc, Bool, true, false, ◌||◌, cond, refl, sym, ap, subst, ◌∙◌, arith, List, [], ◌∷◌, Option, Some, None}
 use Rattle.std.specs.List.{All}
-use Rattle.std.specs.Prelude.{Result, Ok, Err, IfOk}
+use Rattle.std.specs.Prelude.{Result, Ok, Err, IfOk, slice_get}
 use Rattle.std.proofs.lemmas.Result.{IfOk-weaker}
 use Rattle.scald_base.specs.Time.{period}
 use Rattle.element_kinds.specs.declared.form.Check.{Check}
 use Rattle.element_kinds.specs.declared.form.Check.TheVariants.{SetupHold as AboutRise, RiseFall as RiseToFall, MinPulse as Widths}
 use Rattle.element_kinds.specs.Kinds.{check_of, may_be_marked}
 use Rattle.flat_circuit.specs.declared.instance.Instance.{Instance}
+use Rattle.flat_circuit.specs.declared.net.Net.{Net}
 use Rattle.flat_circuit.specs.Circuit.{Circuit}
 use Rattle.fixpoint_engine.specs.Waves.{Waves, marked_pin}
+use Rattle.point_check.specs.Assertion.{is_held}
+use Rattle.slack_rows.specs.declared.parameter.Subject.{Subject}
+use Rattle.slack_rows.specs.declared.parameter.Subject.TheVariants.{Net as OfNet}
 use Rattle.slack_rows.specs.declared.parameter.Word.{Word as Limit}
 use Rattle.slack_rows.specs.declared.parameter.Word.TheVariants.{Setup, Hold, High, Low, Gate, Before as GateBefore, After as GateAfter, Assert, From as StableFrom, To as StableTo}
 use Rattle.slack_rows.specs.declared.slack.Slacks.{Slacks}
-use Rattle.slack_rows.specs.Limit.{beside, check_by_arrivals, instance_by_arrivals, mark_by_arrivals, finding_check, finding_instance, finding_mark}
-use Rattle.slack_rows.specs.Rows.{if_some, limits_of_check, limits_of_instance, limits_of_mark, partner}
+use Rattle.slack_rows.specs.Limit.{beside, by_arrivals, check_by_arrivals, instance_by_arrivals, mark_by_arrivals, finding_check, finding_held, finding_in, finding_instance, finding_mark, finding_net}
+use Rattle.slack_rows.specs.Rows.{if_some, limits_of, limits_of_check, limits_of_instance, limits_of_mark, limits_of_net, partner}
 use Rattle.slack_rows.specs.Held.{TellSides}
 use Rattle.slack_rows.specs.Known.{BreakAlike, IsAlike, TellLimits, may_be_two}
-use Rattle.slack_rows.specs.Slack.{Finding, is_broken, is_free}
+use Rattle.slack_rows.specs.Slack.{Finding, Free, finding_alone, is_broken, is_free}
 use Rattle.slack_rows.specs.Views.{Tells, slack_for, slack_finding}
 use Rattle.slack_rows.proofs.Checking.{FindingBoth}
 use Rattle.slack_rows.proofs.Findings.{finding_slack}
@@ -216,3 +220,23 @@ widths_finding c ws j r is checks =
     (λ found. (Tells (period c.header) found.before (finding_check c ws j High (Some Widths)))
     × (Tells (period c.header) found.after (finding_check c ws j Low (Some Widths)))) (FindingInstance c ws j)
     (λ found finding. of_widths c ws j found is checks finding.0 finding.1)
+
+-- of a net with an assertion
+pub net_finding : {E : Type 0} (c : Circuit) (ws : Waves) (i : ℕ) (net : Net) (subject : Subject) (r : Result Slacks E) → subject ≡ OfNet i →
+    Some net ≡ slice_get c.nets i → is_held net ≡ true →
+    IfOk r (λ found. (Tells (period c.header) found.level (finding_net c ws i net Assert))
+    × (Tells (period c.header) found.before (finding_net c ws i net StableFrom)) × (Tells (period c.header) found.after (finding_net c ws i net StableTo))) →
+    IfOk r (TellLimits (period c.header) (by_arrivals c ws subject) (finding_in c ws subject) (limits_of c subject))
+unfolding finding_in by_arrivals
+net_finding c ws i net subject r is at held so =
+    let p = period c.header in
+    let own = (λ (word : Limit). finding_net c ws i net word) in
+    subst (λ (s : Subject). IfOk r (TellLimits p (by_arrivals c ws s) (finding_in c ws s) (limits_of c s))) (sym is)
+    (subst (λ (o : Option Net). IfOk r (TellLimits p false (λ word. finding_held c ws i word o) (limits_of_net o))) at
+    (subst (λ (b : Bool). IfOk r (TellLimits p false (λ word. cond b (finding_net c ws i net word) (finding_alone Free))
+    (cond b (Assert ∷ StableFrom ∷ StableTo ∷ []) []))) (sym held)
+    (IfOk-weaker r
+    (λ found. (Tells p found.level (finding_net c ws i net Assert)) × (Tells p found.before (finding_net c ws i net StableFrom))
+    × (Tells p found.after (finding_net c ws i net StableTo)))
+    (TellLimits p false own (Assert ∷ StableFrom ∷ StableTo ∷ []))
+    (λ found tells. tell_held p found own false tells.0 tells.1 tells.2) so)))

@@ -54,7 +54,7 @@ tells_one p found finding tells =
     (subst (Tells p (lesser_found None found)) (sym (least_more [] finding))
     (tells_lesser p None found (finding_alone Free) finding refl tells))
 
-or_none : (a b : Bool) → (a || b) ≡ false → (a ≡ false) × (b ≡ false)
+pub or_none : (a b : Bool) → (a || b) ≡ false → (a ≡ false) × (b ≡ false)
 or_none true b is = absurd (cc)
 or_none false b is = (refl, is)
 

@@ -1,5 +1,5 @@
--- Paths that go on as more of them are found, and the pins that they go by.
-use Rattle.std.proofs.Common.{◌≡◌, ℕ, ◌<◌, List, [], ◌∷◌, ◌++◌, length, slice_get, refl, sym, ap, subst, ◌∙◌, append-nil, append_assoc, Option, Some, None}
+-- The pins that paths go by, and the places that are worked out.
+use Rattle.std.proofs.Common.{◌≡◌, ℕ, ◌<◌, List, [], ◌∷◌, length, slice_get, refl, subst, Option, Some, None}
 use Rattle.std.specs.List.{All}
 use Rattle.std.proofs.lemmas.List.Elements.{All-nil, All-cons, All-get_or, All-head, All-tail}
 use Rattle.std.proofs.lemmas.Option.{get_or_from_slice_get, slice_get_within}
@@ -9,13 +9,9 @@ use Rattle.flat_circuit.specs.declared.instance.Instance.{Instance}
 use Rattle.flat_circuit.specs.declared.instance.Pin.{Pin}
 use Rattle.flat_circuit.specs.Circuit.{Circuit, IsCircuit}
 use Rattle.flat_circuit.specs.Instances.{InstanceFits, PinExists, TargetExists}
-use Rattle.fixpoint_engine.specs.Waves.{Waves}
 use Rattle.critical_paths.specs.declared.arrival.Known.{Known}
 use Rattle.critical_paths.specs.declared.arrival.Place.{Place}
-use Rattle.critical_paths.specs.declared.event.Stop.{Stop}
-use Rattle.critical_paths.specs.declared.path.Node.{Node}
 use Rattle.critical_paths.specs.Event.{other_corner}
-use Rattle.critical_paths.specs.Known.{Grows, Knows}
 use Rattle.critical_paths.specs.Reached.{StaysKnown}
 use Rattle.critical_paths.specs.Views.{IsPin}
 use Rattle.slack_rows.specs.Arrived.{AreWorkedOut}
@@ -23,26 +19,7 @@ use Rattle.critical_paths.specs.declared.direction.Corner.{Corner}
 use Rattle.critical_paths.specs.declared.direction.Corner.TheVariants.{Late, Early}
 use Rattle.slack_rows.specs.declared.held.Held.{Held}
 use Rattle.slack_rows.specs.declared.window.Window.{Window}
-use Rattle.slack_rows.specs.Held.{GoesOn, IsHeld, step_held}
-
--- no path more
-pub goes_none : (c : Circuit) (ws : Waves) (nodes : List Node) (met : List (Stop × ℕ)) → Knows c ws nodes met → GoesOn c ws nodes nodes met
-goes_none c ws nodes met knows = record { knows = knows; grows = record { more = []; is = sym (append-nil nodes) } }
-
--- some, and then more
-pub goes_then : (c : Circuit) (ws : Waves) (a b d : List Node) (m n : List (Stop × ℕ)) → GoesOn c ws a b m → GoesOn c ws b d n → GoesOn c ws a d n
-goes_then c ws a b d m n one two =
-    record {
-      knows = two.knows;
-      grows = record {
-        more = one.grows.more ++ two.grows.more;
-        is = two.grows.is ∙ ap (λ (l : List Node). l ++ two.grows.more) one.grows.is ∙ append_assoc a one.grows.more two.grows.more;
-      };
-    }
-
--- what a call says by two clauses
-pub goes_by : (c : Circuit) (ws : Waves) (a b : List Node) (m : List (Stop × ℕ)) → Knows c ws b m → Grows a b → GoesOn c ws a b m
-goes_by c ws a b m knows grows = record { knows = knows; grows = grows }
+use Rattle.slack_rows.specs.Held.{IsHeld, step_held}
 
 -- ---- pins of a circuit
 

@@ -17,7 +17,7 @@ use Rattle.slack_rows.specs.Limit.{Case, least_finding, finding_case, finding_in
 use Rattle.slack_rows.specs.Rows.{all_limits, limit_with, partner}
 use Rattle.slack_rows.specs.Known.{AreKnown, BreakAlike, BreaksBoth, IsAlike, IsLowered, IsLoweredBy, SlacksKnown, breaks, least_at, may_be_two}
 use Rattle.slack_rows.specs.Views.{slack_by, slack_for, slack_finding}
-use Rattle.slack_rows.proofs.Alike.{broken_lesser, exchanged, or_first, free_lesser, or_second}
+use Rattle.slack_rows.proofs.Alike.{and_true, broken_lesser, exchanged, or_first, free_lesser, or_second}
 use Rattle.slack_rows.proofs.Blocks.{before_it}
 use Rattle.slack_rows.proofs.Broken.{less_breaks, more_breaks}
 use Rattle.slack_rows.proofs.Keeping.{alike_now}
@@ -29,10 +29,6 @@ use Rattle.slack_rows.proofs.Findings.{least_map_more}
 or_none : (a : Bool) → a ≡ (a || false)
 or_none true = refl
 or_none false = refl
-
-and_true : (a : Bool) → a ≡ (a && true)
-and_true true = refl
-and_true false = refl
 
 pub lowered_breaks : (sets new : List (ℕ × ℕ)) (old found : Option Least) (finding : Option Found) (case : ℕ) →
     IsLowered sets old finding case new found → breaks found ≡ (breaks old || is_broken (slack_finding finding))

@@ -13,7 +13,7 @@ use Rattle.slack_rows.specs.declared.slack.Finding.{Finding as Found}
 use Rattle.slack_rows.specs.Slack.{is_broken, is_free, is_less}
 use Rattle.slack_rows.specs.Limit.{Case, by_arrivals, least_finding, finding_case}
 use Rattle.slack_rows.specs.Rows.{all_limits, partner}
-use Rattle.slack_rows.specs.Known.{AreKnown, AreSets, BreaksBoth, IsKept, IsKnown, IsLowered, IsLoweredBy, IsNumbered, IsSetWith, breaks, is_sure, may_be_two, numbers_of, places_of}
+use Rattle.slack_rows.specs.Known.{AreKnown, AreSets, BreaksBoth, IsKept, IsKnown, IsLowered, IsLoweredBy, IsNumbered, IsOfCases, IsSetWith, breaks, finding_least, is_sure, may_be_two, numbers_of, places_of}
 use Rattle.slack_rows.specs.Views.{Tells, slack_by}
 use Rattle.slack_rows.proofs.Casewise.{known_more}
 use Rattle.slack_rows.proofs.Places.{number_within, places_same, sets_longer, sets_more}
@@ -177,8 +177,11 @@ module _ (c : Circuit) (cases : List Case) (one : Case) where
 
   pub passed_all : (limits : List Parameter) (least : List (Option Least)) (sets : List (ℕ × ℕ)) (place : ℕ) (numbers more : List ℕ) →
       length limits ≤ place → numbers ≡ map (λ (case : Case). case.number) cases → more ≡ numbers ++ one.number ∷ [] →
-      Passed limits least sets place → IsAlikeIn c (cases ++ one ∷ []) limits least → AreKnown c (cases ++ one ∷ []) limits least more sets
-  passed_all limits least sets place numbers more past are is passed alike =
+      Passed limits least sets place →
+      ((i : ℕ) (q : Parameter) (found : Option Least) → slice_get limits i ≡ Some q → slice_get least i ≡ Some found →
+      IsOfCases c (cases ++ one ∷ []) q (finding_least found)) →
+      IsAlikeIn c (cases ++ one ∷ []) limits least → AreKnown c (cases ++ one ∷ []) limits least more sets
+  passed_all limits least sets place numbers more past are is passed exact alike =
       record {
         are_limits = passed.are_limits;
         count = passed.count;
@@ -186,6 +189,7 @@ module _ (c : Circuit) (cases : List Case) (one : Case) where
             is ∙ ap (λ (xs : List ℕ). xs ++ one.number ∷ []) are ∙ sym (map-append (λ (case : Case). case.number) cases (one ∷ []));
         are_sets = passed.are_sets;
         numbered = passed.numbered;
+        exact = exact;
         each = λ i q found at known sure.
             (let below = within_list limits i q at in passed.done i q found (omega (arith, below, past)) at known sure);
         free = alike.free;

@@ -1,6 +1,6 @@
 -- Arrivals as the program has them: which of two launches count, which is further, and which edge a
 -- launch is for.
-use Rattle.std.specs.Prelude.{◌≡◌, ◌⊎◌, ℕ, ◌==◌, List, [], ◌∷◌, ◌++◌, length, fold, Bool, true, false, not, ◌&&◌, ℤ, pos, ◌+ℤ◌, ◌-ℤ◌, int_le, int_lt, if◌then◌else◌, is_some, slice_get, unwrap_or, Option, Some, None}
+use Rattle.std.specs.Prelude.{◌≡◌, ℕ, ◌==◌, List, length, fold, Bool, true, false, not, ◌&&◌, ℤ, pos, ◌+ℤ◌, ◌-ℤ◌, int_le, int_lt, if◌then◌else◌, is_some, slice_get, unwrap_or, Option, Some, None}
 use Rattle.std.specs.Int.{int_rem_euclid}
 use Rattle.std.specs.List.{list_any}
 use Rattle.std.specs.Option.{option_and_then, option_map}
@@ -161,14 +161,6 @@ TwoWorkedOut entries held (Some edge) =
     × AreWorkedOut entries (place_on edge.0 EarlyCorner held.pin.target)
 
 -- ---- ways
-
--- nothing is added, or one that is so
-abbrev pub MayAdd : {A : Type 0} → (A → Type 0) → List A → List A → Type 0
-MayAdd {A} is old new = (new ≡ old) ⊎ ((x : A) × (is x × (new ≡ old ++ x ∷ [])))
-
--- a window, and the edge of a clock that it is about
-abbrev pub IsGuardOf : Ticks → ℕ × ℤ → Guard → Type 0
-IsGuardOf w edge g = (g.window ≡ w) × ((g.net ≡ edge.0) × (g.ideal ≡ edge.1))
 
 -- how far from a launch the edge lies that it is for: the next one, or the last one
 abbrev pub distance_of : Corner → ℕ → ℤ → ℤ → ℤ

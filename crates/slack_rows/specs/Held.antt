@@ -15,12 +15,13 @@ use Rattle.critical_paths.specs.declared.direction.Direction.TheVariants.{Change
 use Rattle.critical_paths.specs.declared.region.Region.{Region as Ticked}
 use Rattle.critical_paths.specs.declared.region.Slots.{Slots}
 use Rattle.critical_paths.specs.declared.path.Node.{Node}
-use Rattle.critical_paths.specs.declared.event.Stop.{Stop}
+use Rattle.critical_paths.specs.declared.path.Paths.{Paths}
 use Rattle.critical_paths.specs.Tick.{IsWithin}
 use Rattle.critical_paths.specs.Event.{Events, events, moves}
 use Rattle.critical_paths.specs.Region.{IsCyclic, Region, all_events, regions}
 use Rattle.critical_paths.specs.declared.path.At.{At}
 use Rattle.critical_paths.specs.Known.{Grows, IsShortPath, Knows}
+use Rattle.critical_paths.specs.Reached.{KeepsArrivals}
 use Rattle.critical_paths.specs.Views.{IsPin, later_by, ticks_of_region}
 use Rattle.critical_paths.specs.Walk.{pin_path_of}
 use Rattle.critical_paths.specs.Launch.{Edge, ago, edge_of_pin}
@@ -133,11 +134,12 @@ abbrev pub MayBeHeld : Circuit → Option Held → Type 0
 MayBeHeld c None = Unit {0}
 MayBeHeld c (Some held) = IsHeld c held
 
--- The paths know what they did of the case, and have lost no event.
-pub record GoesOn (c : Circuit) (ws : Waves) (old new : List Node)
-    (met : List (Stop × ℕ)) : Type 0 where
-  pub knows : Knows c ws new met
-  pub grows : Grows old new
+-- The paths know what they did of the case, have lost no event, and know its arrivals exactly if they
+-- did.
+pub record GoesOn (c : Circuit) (ws : Waves) (old new : Paths) : Type 0 where
+  pub knows : Knows c ws new.nodes new.met.entries
+  pub grows : Grows old.nodes new.nodes
+  pub keeps : KeepsArrivals c ws old new
 
 -- a region that begins in a period of p, as the program counts its ticks
 pub record IsInPeriod (p : ℕ) (r : Ticked) : Type 0 where

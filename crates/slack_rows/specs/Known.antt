@@ -1,5 +1,5 @@
 -- What is known of all limits over some cases.
-use Rattle.std.specs.Prelude.{◌≡◌, ℕ, zero, suc, ◌+◌, ◌-◌, ◌<◌, ◌≤◌, ◌⊎◌, Bool, true, false, not, ◌&&◌, ◌||◌, ◌==◌, is_none, List, [], ◌∷◌, ◌++◌, length, map, slice_get, slice_index_or, nat_le, if◌then◌else◌, Option, Some, None}
+use Rattle.std.specs.Prelude.{◌≡◌, ℕ, zero, suc, ◌+◌, ◌-◌, ◌<◌, ◌≤◌, ◌⊎◌, Bool, true, false, not, ◌&&◌, ◌||◌, ◌==◌, is_none, List, [], ◌∷◌, ◌++◌, fold, length, map, slice_get, slice_index_or, nat_le, if◌then◌else◌, Option, Some, None}
 use Rattle.std.specs.List.{All, AllByRecursion, list_all, list_any}
 use Rattle.scald_base.specs.Time.{period}
 use Rattle.flat_circuit.specs.Circuit.{Circuit}
@@ -14,7 +14,8 @@ use Rattle.slack_rows.specs.declared.slack.Finding.{Finding as Found}
 use Rattle.slack_rows.specs.Slack.{Free, Finding, is_broken, is_free, is_less}
 use Rattle.slack_rows.specs.Limit.{Case, by_arrivals, least_finding, finding_in, worst}
 use Rattle.slack_rows.specs.Rows.{all_limits, first_with, limits_of, partner, subjects}
-use Rattle.slack_rows.specs.Views.{IsFinding, Tells, slack_by, slack_for, slack_finding}
+use Rattle.slack_rows.specs.Exact.{AreOfSubject}
+use Rattle.slack_rows.specs.Views.{IsFinding, Tells, lesser_found, slack_by, slack_for, slack_finding}
 
 -- ---- sets of cases
 
@@ -100,6 +101,24 @@ SlacksKnown c ws (Some subject) slacks =
     TellLimits (period c.header) (by_arrivals c ws subject) (finding_in c ws subject)
     (limits_of c subject) slacks
 
+-- ---- exact slacks
+
+-- the slacks of a subject in some cases, one after another
+abbrev pub AreOfCases : Circuit → Subject → List Case → List Slacks → Type 0
+AreOfCases c subject [] [] = Unit {0}
+AreOfCases c subject [] (own ∷ each) = ⊥
+AreOfCases c subject (case ∷ cases) [] = ⊥
+AreOfCases c subject (case ∷ cases) (own ∷ each) =
+    (SlacksKnown c case.waves (Some subject) own × AreOfSubject c case.waves subject own)
+    × AreOfCases c subject cases each
+
+-- the least of a limit over these cases, of equals the first
+pub record IsOfCases (c : Circuit) (cases : List Case) (q : Parameter) (found : Option Found) :
+    Type 0 where
+  pub each : List Slacks
+  pub are : AreOfCases c q.subject cases each
+  pub is : found ≡ fold lesser_found None (map (λ own. slack_for own q.word) each)
+
 -- the slack of a limit, and whether two are of one case
 abbrev pub finding_least : Option Least → Option Found
 finding_least None = None
@@ -150,8 +169,9 @@ BreaksBoth c cases least place q (Some before) =
     ≡ (is_broken (least_finding c cases q.subject before).slack
     || is_broken (least_finding c cases q.subject q.word).slack)
 
--- Of each limit of the circuit: all if arrivals do not decide, and always whether something can
--- break it and whether it is broken, of two sides together.
+-- Of each limit of the circuit: that its slack is the least over the cases, exactly as paths have it
+-- that know all arrivals; all if arrivals do not decide; and always whether something can break it
+-- and whether it is broken, of two sides together.
 pub record AreKnown (c : Circuit) (cases : List Case) (limits : List Parameter)
     (least : List (Option Least)) (numbers : List ℕ) (sets : List (ℕ × ℕ)) : Type 0 where
   pub are_limits : limits ≡ all_limits c
@@ -160,6 +180,8 @@ pub record AreKnown (c : Circuit) (cases : List Case) (limits : List Parameter)
   pub are_sets : AreSets sets
   pub numbered : (i : ℕ) (found : Option Least) → slice_get least i ≡ Some found →
       IsNumbered sets found
+  pub exact : (i : ℕ) (q : Parameter) (found : Option Least) → slice_get limits i ≡ Some q →
+      slice_get least i ≡ Some found → IsOfCases c cases q (finding_least found)
   pub each : (i : ℕ) (q : Parameter) (found : Option Least) → slice_get limits i ≡ Some q →
       slice_get least i ≡ Some found → is_sure c cases q.subject ≡ true →
       IsKnown c cases sets q found

@@ -12,3 +12,6 @@ pub mod Held
 pub mod Arrived
 pub mod Shown
 pub mod Laws
+pub mod Sides
+pub mod Exact
+pub mod Worst

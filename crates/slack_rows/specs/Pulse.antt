@@ -1,6 +1,7 @@
 -- Slack of widths: how narrow a pulse may be, read off the wave as it is.
-use Rattle.std.specs.Prelude.{ℕ, ◌+◌, ◌==◌, nat_lt, Bool, true, false, not, ◌&&◌, List, [], ◌∷◌, filter_map, ℤ, pos, ◌-ℤ◌, int_le, if◌then◌else◌, Option, Some, None}
+use Rattle.std.specs.Prelude.{ℕ, ◌+◌, ◌==◌, nat_lt, Bool, true, false, not, ◌&&◌, List, [], ◌∷◌, filter_map, ℤ, pos, ◌+ℤ◌, ◌-ℤ◌, int_le, if◌then◌else◌, Option, Some, None}
 use Rattle.std.specs.List.{list_any, range_with_len}
+use Rattle.std.specs.Option.{option_map}
 use Rattle.scald_base.specs.Time.{period}
 use Rattle.vector_names.specs.declared.bits.Target.{Target}
 use Rattle.vector_names.specs.declared.bits.Target.TheVariants.{Net as OnNet, Constant}
@@ -8,7 +9,7 @@ use Rattle.step_values.specs.Steps.{has, is_quiet}
 use Rattle.flat_circuit.specs.declared.instance.Pin.{Pin}
 use Rattle.flat_circuit.specs.declared.instance.Instance.{Instance}
 use Rattle.flat_circuit.specs.declared.split.Split.{Split}
-use Rattle.flat_circuit.specs.Circuit.{Circuit, driver}
+use Rattle.flat_circuit.specs.Circuit.{Circuit, driver, wire_at}
 use Rattle.flat_circuit.specs.Split.{two_delays}
 use Rattle.gate_eval.specs.Instance.{gate_image}
 use Rattle.scald_base.specs.Signal.{turned}
@@ -88,6 +89,15 @@ abbrev pub begins_in : Circuit → Waves → Bool → Option Instance → Option
 begins_in c ws level None = None
 begins_in c ws level (Some j) = begins_by c ws j (turned j.out_inverted level)
     (two_delays j.kind j.split)
+
+-- at a pin, by the least of its wire
+abbrev pub begins_on : Circuit → Waves → Bool → Target → Option ℤ
+begins_on c ws level (OnNet i) =
+    option_map (λ begin. begin +ℤ pos (wire_at c.nets i).min) (begins_in c ws level (driver c i))
+begins_on c ws level (Constant b) = None
+
+abbrev pub begins_at : Circuit → Waves → Bool → Pin → Option ℤ
+begins_at c ws level pin = begins_on c ws (turned pin.inverted level) pin.target
 
 -- ---- pulses that may change more than once
 

@@ -1,5 +1,5 @@
 -- The program's slacks, in the words of the definitions.
-use Rattle.std.specs.Prelude.{◌≡◌, ℕ, ◌*◌, ◌^◌, nat_le, not, ◌&&◌, Bool, true, false, ℤ, pos, ◌+ℤ◌, ◌-ℤ◌, ◌≤ℤ◌, unsigned_abs, if◌then◌else◌, Option, Some, None}
+use Rattle.std.specs.Prelude.{◌≡◌, ℕ, ◌*◌, ◌^◌, nat_le, not, ◌&&◌, Bool, true, false, ℤ, pos, ◌+ℤ◌, ◌-ℤ◌, ◌≤ℤ◌, unsigned_abs, if◌then◌else◌, unwrap_or, Option, Some, None}
 use Rattle.element_kinds.specs.declared.form.Check.{Check}
 use Rattle.element_kinds.specs.declared.form.Check.TheVariants.{SetupHold as AboutRise, RiseFall as RiseToFall, MinPulse as Widths}
 use Rattle.critical_paths.specs.declared.direction.Corner.{Corner}
@@ -201,6 +201,22 @@ comes_again Pulse = false
 comes_again Swallowed = false
 comes_again Repeated = true
 comes_again Nothing = false
+
+-- when a pulse begins whose slot is known: one that may be swallowed as late as it may
+abbrev pub pulse_begin : Option ℤ → ℤ → By → ℤ
+pulse_begin late slot (ByRegion region) = slot
+pulse_begin late slot (ByWay node) = slot
+pulse_begin late slot Quiet = slot
+pulse_begin late slot Pulse = slot
+pulse_begin late slot Swallowed = unwrap_or late slot
+pulse_begin late slot Repeated = slot
+pulse_begin late slot Nothing = slot
+
+-- The window of a width is the pulse, from its begin on.
+pub record IsPulseWindow (limit : ℕ) (late : Option ℤ) (found : Found) : Type 0 where
+  pub first : found.window.first ≡ pulse_begin late found.tick found.by
+  pub slack : found.slack
+      ≡ NumberOfTicks (found.window.last -ℤ found.window.first -ℤ pos limit)
 
 -- a number of a way, or none: it is broken whatever it is
 abbrev pub is_starred : Slack → Bool

@@ -137,7 +137,7 @@ fn steps<W: CyclicWave<Item = Value>>(
     requires fold { length (W.cells fold.now) ≡ period view.now.circuit.now.header }
     requires wide { length (W.cells wide.now) ≡ period view.now.circuit.now.header }
     ensures paths { OnOk result (GoesOn view.now.circuit.now (waves_of view.now.waves.now)
-        paths.old.nodes paths.new.nodes paths.new.met.entries) }
+        paths.old paths.new) }
     ensures finding { let p = period view.now.circuit.now.header in IfOk result
         (TellParts p no_launches (λ w r. false) 0 direction
         (watch_at p (events direction (read (W.cells fold.now)))
@@ -161,7 +161,7 @@ fn both_steps<W: CyclicWave<Item = Value>>(
     requires fold { length (W.cells fold.now) ≡ period view.now.circuit.now.header }
     requires wide { length (W.cells wide.now) ≡ period view.now.circuit.now.header }
     ensures paths { OnOk result (GoesOn view.now.circuit.now (waves_of view.now.waves.now)
-        paths.old.nodes paths.new.nodes paths.new.met.entries) }
+        paths.old paths.new) }
     ensures finding { let p = period view.now.circuit.now.header in IfOk result
         (TellDirections p (read (W.cells fold.now)) (read (W.cells wide.now))
         (Rise ∷ Fall ∷ [])) }
@@ -185,7 +185,7 @@ fn all_steps<W: CyclicWave<Item = Value>>(
     requires fold { length (W.cells fold.now) ≡ period view.now.circuit.now.header }
     requires wide { length (W.cells wide.now) ≡ period view.now.circuit.now.header }
     ensures paths { OnOk result (GoesOn view.now.circuit.now (waves_of view.now.waves.now)
-        paths.old.nodes paths.new.nodes paths.new.met.entries) }
+        paths.old paths.new) }
     ensures finding { let p = period view.now.circuit.now.header in IfOk result
         (TellDirections p (read (W.cells fold.now)) (read (W.cells wide.now))
         (directions_of spec.now)) }
@@ -219,7 +219,7 @@ pub fn net_slacks<W: CyclicWave<Item = Value>>(
         paths.old.met.entries }
     requires net { slice_get view.now.circuit.now.nets number ≡ Some net.now }
     ensures paths { OnOk result (GoesOn view.now.circuit.now (waves_of view.now.waves.now)
-        paths.old.nodes paths.new.nodes paths.new.met.entries) }
+        paths.old paths.new) }
     ensures finding { let c = view.now.circuit.now in let ws = waves_of view.now.waves.now in
         IfOk result (λ found.
         (Tells (period c.header) found.level (finding_net c ws number net.now Assert))

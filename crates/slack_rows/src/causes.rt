@@ -70,7 +70,7 @@ fn pulse_paths<W: CyclicWave<Item = Value>>(
     requires first { IsWithin (2 ^ 44) finding.window.first }
     requires last { IsWithin (2 ^ 44) finding.window.last }
     ensures paths { OnOk result (GoesOn view.now.circuit.now (waves_of view.now.waves.now)
-        paths.old.nodes paths.new.nodes paths.new.met.entries) }
+        paths.old paths.new) }
     ensures begin { IfOk result (λ found. ShowsAt finding.window.first found.«data») }
     ensures end { IfOk result (λ found. ShowsAt finding.window.last found.clock) }
     ensures corners { IfOk result (λ found.
@@ -136,7 +136,7 @@ fn change_path<W: CyclicWave<Item = Value>>(
     requires held { IsHeld view.now.circuit.now held }
     requires tick { IsWithin (2 ^ 44) finding.tick }
     ensures paths { OnOk result (GoesOn view.now.circuit.now (waves_of view.now.waves.now)
-        paths.old.nodes paths.new.nodes paths.new.met.entries) }
+        paths.old paths.new) }
     ensures tick { IfOk result (ShowsAt finding.tick) }
     ensures is { IfOk result (IsPathOf view.now.circuit.now (waves_of view.now.waves.now)
         paths.new.nodes (change_finding held corner finding)) }
@@ -189,7 +189,7 @@ fn data_path<W: CyclicWave<Item = Value>>(
     requires held { IsHeld view.now.circuit.now held }
     requires tick { IsWithin (2 ^ 44) finding.tick }
     ensures paths { OnOk result (GoesOn view.now.circuit.now (waves_of view.now.waves.now)
-        paths.old.nodes paths.new.nodes paths.new.met.entries) }
+        paths.old paths.new) }
     ensures tick { IfOk result (ShowsAt finding.tick) }
     ensures is { is_by_way finding.by ≡ false → IfOk result (IsPathOf view.now.circuit.now
         (waves_of view.now.waves.now) paths.new.nodes (change_finding held corner finding)) }
@@ -216,7 +216,7 @@ fn edge_path<W: CyclicWave<Item = Value>>(
     requires first { IsWithin (2 ^ 44) window.first }
     requires last { IsWithin (2 ^ 44) window.last }
     ensures paths { OnOk result (GoesOn view.now.circuit.now (waves_of view.now.waves.now)
-        paths.old.nodes paths.new.nodes paths.new.met.entries) }
+        paths.old paths.new) }
     ensures tick { IfOk result (ShowsAt (edge_tick corner window)) }
     ensures corner { IfOk result (Explains paths.new.nodes (other_corner corner)) }
     ensures is { IfOk result (IsPathOf view.now.circuit.now (waves_of view.now.waves.now)
@@ -242,7 +242,7 @@ fn held_paths<W: CyclicWave<Item = Value>>(
     requires last { IsWithin (2 ^ 44) finding.window.last }
     requires tick { IsWithin (2 ^ 44) finding.tick }
     ensures paths { OnOk result (GoesOn view.now.circuit.now (waves_of view.now.waves.now)
-        paths.old.nodes paths.new.nodes paths.new.met.entries) }
+        paths.old paths.new) }
     ensures change { IfOk result (λ found. ShowsAt finding.tick found.«data») }
     ensures edge { IfOk result (λ found. ShowsAt (edge_tick corner finding.window) found.clock) }
     ensures corner { IfOk result (λ found.
@@ -268,7 +268,7 @@ fn net_paths<W: CyclicWave<Item = Value>>(
     requires knows { Knows view.now.circuit.now (waves_of view.now.waves.now) paths.old.nodes
         paths.old.met.entries }
     ensures paths { OnOk result (GoesOn view.now.circuit.now (waves_of view.now.waves.now)
-        paths.old.nodes paths.new.nodes paths.new.met.entries) }
+        paths.old paths.new) }
     ensures change { IfOk result (λ found. IfSome found.«data» (λ at. at.tick ≡ finding.tick)) }
     ensures none { IfOk result (λ found. found.clock ≡ None) }
     ensures corner { IfOk result (λ found. Explains paths.new.nodes corner found.«data») }
@@ -307,7 +307,7 @@ fn instance_paths<W: CyclicWave<Item = Value>>(
     requires last { IsWithin (2 ^ 44) finding.window.last }
     requires tick { IsWithin (2 ^ 44) finding.tick }
     ensures paths { OnOk result (GoesOn view.now.circuit.now (waves_of view.now.waves.now)
-        paths.old.nodes paths.new.nodes paths.new.met.entries) }
+        paths.old paths.new) }
     ensures change { IfOk result (λ found.
         ShowsAt (data_tick (is_of_width parameter.word) finding) found.«data») }
     ensures edge { IfOk result (λ found. ShowsAt (clock_tick (is_of_width parameter.word)
@@ -347,7 +347,7 @@ pub fn causes_of<W: CyclicWave<Item = Value>>(
     requires knows { Knows view.now.circuit.now (waves_of view.now.waves.now) paths.old.nodes
         paths.old.met.entries }
     ensures paths { OnOk result (GoesOn view.now.circuit.now (waves_of view.now.waves.now)
-        paths.old.nodes paths.new.nodes paths.new.met.entries) }
+        paths.old paths.new) }
     ensures ticks { IfOk result (λ found.
         ShowAt parameter.subject parameter.word finding found.«data» found.clock) }
     ensures corners { IfOk result (λ found. ExplainAt parameter.subject parameter.word

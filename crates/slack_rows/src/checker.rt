@@ -1,6 +1,6 @@
 //! The slacks of a checker's setup and hold.
 
-ghost use Rattle.std.specs.Prelude.{◌≡◌, ◌≤◌, ◌+◌, ◌==◌, not, IfOk, OnOk, Some, None, length, slice_get, true, false};
+ghost use Rattle.std.specs.Prelude.{◌≡◌, ◌≤◌, ◌+◌, ◌==◌, not, IfOk, OnOk, Some, None, length, map, slice_get, true, false};
 ghost use Rattle.std.specs.List.{All, AllByRecursion};
 ghost use Rattle.scald_base.specs.Time.{period};
 ghost use Rattle.element_kinds.specs.Kinds.{check_of};
@@ -11,14 +11,15 @@ ghost use Rattle.fixpoint_engine.specs.Pins.{read};
 ghost use Rattle.point_check.specs.Window.{Folds};
 ghost use Rattle.critical_paths.specs.declared.direction.Direction.TheVariants.{Change, Rise};
 ghost use Rattle.critical_paths.specs.Event.{Events, events};
-ghost use Rattle.critical_paths.specs.Region.{IsCyclic, some_event};
+ghost use Rattle.critical_paths.specs.Region.{IsCyclic, regions, some_event};
 ghost use Rattle.critical_paths.specs.Known.{Knows};
-ghost use Rattle.critical_paths.specs.Views.{Sees};
+ghost use Rattle.critical_paths.specs.Views.{Sees, ticks_of_region};
 ghost use Rattle.slack_rows.specs.Held.{AreChanges, AreOfWays, AreSlots, GoesOn, IsHeld, IsInPeriod, IsSlots, TellSides, TellWatch, TellWindows, launches_of, two_of, windows_about};
 ghost use Rattle.slack_rows.specs.Laws.{IsPlaced};
-ghost use Rattle.slack_rows.specs.Limit.{check_by_arrivals, edge_limits as limits_at_edges, has_no_window, is_by_arrivals, finding_check};
+ghost use Rattle.slack_rows.specs.Limit.{check_by_arrivals, edge_limits as limits_at_edges, has_no_window, is_by_arrivals, finding_check, pin_folds};
+ghost use Rattle.slack_rows.specs.Sides.{AreAboutEdges, AreOfChecker, has_windows};
 ghost use Rattle.slack_rows.specs.Views.{checks_edges, closing, finding_none};
-ghost use Rattle.slack_rows.specs.Watch.{rise_watch, span_watch};
+ghost use Rattle.slack_rows.specs.Watch.{rise_watch, span_watch, spans};
 ghost use Rattle.slack_rows.specs.declared.parameter.Word.TheVariants.{Setup, Hold};
 
 use crate::held::{Held, Watch};
@@ -84,7 +85,7 @@ fn about_edges<W: CyclicWave<Item = Value>>(
     requires extent { extent.before ≤ period view.now.circuit.now.header }
     requires changes { IsSlots (period view.now.circuit.now.header) changes.now }
     ensures paths { OnOk result (GoesOn view.now.circuit.now (waves_of view.now.waves.now)
-        paths.old.nodes paths.new.nodes paths.new.met.entries) }
+        paths.old paths.new) }
     ensures level { IfOk result (λ found. found.level ≡ None) }
     ensures finding { let c = view.now.circuit.now in let p = period c.header in
         let ws = waves_of view.now.waves.now in
@@ -95,11 +96,14 @@ fn about_edges<W: CyclicWave<Item = Value>>(
         Change windows) }
     ensures ways { changes.now.are_all ≡ true →
         IfOk result (AreOfWays (not (length edges.now == 0))) }
+    ensures are { IfOk result (AreAboutEdges view.now.circuit.now (waves_of view.now.waves.now)
+        paths.old paths.new held extent edges.now changes.now) }
 {
+    let moving = changes.regions.as_slice();
     let watch = Watch {
         edges,
         extent,
-        changes: changes.regions.as_slice(),
+        changes: moving,
         direction: Direction::Change,
         held: Some(held),
     };
@@ -128,7 +132,7 @@ fn span_slacks<W: CyclicWave<Item = Value>>(
     requires short { setup_of limits + hold_of limits ≤ period view.now.circuit.now.header }
     requires changes { IsSlots (period view.now.circuit.now.header) changes.now }
     ensures paths { OnOk result (GoesOn view.now.circuit.now (waves_of view.now.waves.now)
-        paths.old.nodes paths.new.nodes paths.new.met.entries) }
+        paths.old paths.new) }
     ensures finding { let c = view.now.circuit.now in let p = period c.header in
         let ws = waves_of view.now.waves.now in (input : Folds) →
         IsCyclic p (events Change input) → some_event p (events Change input) ≡ true →
@@ -139,6 +143,11 @@ fn span_slacks<W: CyclicWave<Item = Value>>(
     ensures never { (input : Folds) → (span_watch (length (W.cells clock.now))
         (limits_at_edges limits) (read (W.cells clock.now)) input).never ≡ true →
         IfOk result (λ found. found.before ≡ Some (finding_none Reason.High held.place Change)) }
+    ensures are { let p = length (W.cells clock.now) in let wave = read (W.cells clock.now) in
+        (input : Folds) → (span_watch p (limits_at_edges limits) wave input).never ≡ false →
+        IfOk result (AreAboutEdges view.now.circuit.now (waves_of view.now.waves.now)
+        paths.old paths.new held (limits_at_edges limits)
+        (map ticks_of_region (spans p wave)) changes.now) }
 {
     if stays_high(clock) {
         return Ok(Slacks::none(Reason::High, held.place, Direction::Change));
@@ -169,7 +178,7 @@ fn rise_slacks<W: CyclicWave<Item = Value>>(
     requires short { setup_of limits + hold_of limits ≤ period view.now.circuit.now.header }
     requires changes { IsSlots (period view.now.circuit.now.header) changes.now }
     ensures paths { OnOk result (GoesOn view.now.circuit.now (waves_of view.now.waves.now)
-        paths.old.nodes paths.new.nodes paths.new.met.entries) }
+        paths.old paths.new) }
     ensures finding { let c = view.now.circuit.now in let p = period c.header in
         let ws = waves_of view.now.waves.now in (input : Folds) →
         IsCyclic p (events Change input) → some_event p (events Change input) ≡ true →
@@ -180,6 +189,12 @@ fn rise_slacks<W: CyclicWave<Item = Value>>(
     ensures never { let p = period view.now.circuit.now.header in (input : Folds) →
         (rise_watch p (limits_at_edges limits) (read (W.cells clock.now)) input).never ≡ true →
         IfOk result (λ found. found.before ≡ Some (finding_none Reason.Clock held.place Change)) }
+    ensures are { let p = period view.now.circuit.now.header in
+        let wave = read (W.cells clock.now) in (input : Folds) →
+        (rise_watch p (limits_at_edges limits) wave input).never ≡ false →
+        IfOk result (AreAboutEdges view.now.circuit.now (waves_of view.now.waves.now)
+        paths.old paths.new held (limits_at_edges limits)
+        (map ticks_of_region (regions p (events Rise wave))) changes.now) }
 {
     let edges = slots(view, clock, Test::May(Direction::Rise))?;
     if edges.are_all {
@@ -224,11 +239,16 @@ pub fn checker_slacks<W: CyclicWave<Item = Value>>(
     requires fits { InstanceFits view.now.circuit.now.header
         (length view.now.circuit.now.nets) checker.now }
     ensures paths { OnOk result (GoesOn view.now.circuit.now (waves_of view.now.waves.now)
-        paths.old.nodes paths.new.nodes paths.new.met.entries) }
+        paths.old paths.new) }
     ensures finding { let c = view.now.circuit.now in let ws = waves_of view.now.waves.now in
         let j = checker.now in IfOk result
         (TellSides (period c.header) (check_by_arrivals c ws j (Some check))
         (finding_check c ws j Setup (Some check)) (finding_check c ws j Hold (Some check))) }
+    ensures are { let c = view.now.circuit.now in let ws = waves_of view.now.waves.now in
+        let j = checker.now in
+        some_event (period c.header) (events Change (pin_folds c ws j 1)) ≡ true →
+        has_windows c ws j check ≡ true → IfOk result
+        (AreOfChecker c ws paths.old paths.new j check) }
 {
     // no period is short
     let _period = view.period();

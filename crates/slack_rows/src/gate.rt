@@ -13,7 +13,9 @@ ghost use Rattle.critical_paths.specs.declared.direction.Direction.TheVariants.{
 ghost use Rattle.critical_paths.specs.Event.{Events, events};
 ghost use Rattle.critical_paths.specs.Region.{IsCyclic};
 ghost use Rattle.critical_paths.specs.Known.{Knows};
+ghost use Rattle.critical_paths.specs.Reached.{KnowsArrivals};
 ghost use Rattle.critical_paths.specs.Views.{Sees};
+ghost use Rattle.slack_rows.specs.Exact.{AreOfHeld, AreOfPins, AreOfPlace};
 ghost use Rattle.slack_rows.specs.Held.{AreSlots, GoesOn, IsHeld, IsSlots, TellBeside, TellParts, TellSides, launches_of, two_of, watch_at};
 ghost use Rattle.slack_rows.specs.Launched.{opening};
 ghost use Rattle.slack_rows.specs.Limit.{mark_by_arrivals, pin_folds, finding_mark};
@@ -75,12 +77,15 @@ fn beside<W: CyclicWave<Item = Value>>(
     requires pin { PinExists (length view.now.circuit.now.nets) held.pin }
     requires opened { IsSlots (period view.now.circuit.now.header) opened.now }
     ensures paths { OnOk result (GoesOn view.now.circuit.now (waves_of view.now.waves.now)
-        paths.old.nodes paths.new.nodes paths.new.met.entries) }
+        paths.old paths.new) }
     ensures finding { let c = view.now.circuit.now in let p = period c.header in
         let ws = waves_of view.now.waves.now in (lets : Events) → IsCyclic p lets →
         AreSlots p lets opened.now → IfOk result
         (TellParts p (launches_of c ws (Some held)) (two_of c ws (Some held)) held.place Change
         (watch_at p (events Change (folds values (wave_shown c ws held.pin))) lets)) }
+    ensures are { let c = view.now.circuit.now in let ws = waves_of view.now.waves.now in
+        IfOk result (AreOfHeld c ws paths.old held
+        (events Change (folds values (wave_shown c ws held.pin))) opened.now) }
 {
     // there is a slot, since no period is short
     let _period = view.period();
@@ -120,11 +125,15 @@ fn beside_if<W: CyclicWave<Item = Value>>(
         (length view.now.circuit.now.nets) gate.now }
     requires opened { IsSlots (period view.now.circuit.now.header) opened.now }
     ensures paths { OnOk result (GoesOn view.now.circuit.now (waves_of view.now.waves.now)
-        paths.old.nodes paths.new.nodes paths.new.met.entries) }
+        paths.old paths.new) }
     ensures finding { let c = view.now.circuit.now in let p = period c.header in
         let ws = waves_of view.now.waves.now in
         AreSlots p (opens gate.now.kind (pin_folds c ws gate.now marked)) opened.now → IfOk result
         (TellBeside c ws gate.now marked place) }
+    ensures are { let c = view.now.circuit.now in let p = period c.header in
+        let ws = waves_of view.now.waves.now in
+        AreSlots p (opens gate.now.kind (pin_folds c ws gate.now marked)) opened.now → IfOk result
+        (AreOfPlace c ws paths.old gate.now marked place) }
 {
     let pin = pin_of(gate, place);
     let is_on = is_net(pin.target);
@@ -153,7 +162,7 @@ pub fn gate_slacks<W: CyclicWave<Item = Value>>(
     requires fits { InstanceFits view.now.circuit.now.header
         (length view.now.circuit.now.nets) gate.now }
     ensures paths { OnOk result (GoesOn view.now.circuit.now (waves_of view.now.waves.now)
-        paths.old.nodes paths.new.nodes paths.new.met.entries) }
+        paths.old paths.new) }
     ensures level { let c = view.now.circuit.now in let ws = waves_of view.now.waves.now in
         IfOk result (λ found.
         Tells (period c.header) found.level (finding_mark c ws gate.now Gate (Some marked))) }
@@ -161,6 +170,9 @@ pub fn gate_slacks<W: CyclicWave<Item = Value>>(
         let j = gate.now in IfOk result
         (TellSides (period c.header) (mark_by_arrivals c ws j (Some marked))
         (finding_mark c ws j GateBefore (Some marked)) (finding_mark c ws j GateAfter (Some marked))) }
+    ensures are { let c = view.now.circuit.now in let ws = waves_of view.now.waves.now in
+        let j = gate.now in KnowsArrivals c ws paths.old →
+        IfOk result (AreOfPins c ws j marked (length j.pins)) }
 {
     // there is a slot, since no period is short
     let _period = view.period();

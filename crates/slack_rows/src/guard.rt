@@ -1,6 +1,6 @@
 //! Edges of clocks that guard windows.
 
-ghost use Rattle.std.specs.Prelude.{◌≡◌, ◌*◌, ◌+◌, ◌<◌, ◌≤◌, ◌^◌, IfSome};
+ghost use Rattle.std.specs.Prelude.{◌*◌, ◌+◌, ◌<◌, ◌≤◌, ◌^◌};
 ghost use Rattle.critical_paths.specs.Tick.{IsWithin, most_tick};
 
 use crate::window::Window;
@@ -23,12 +23,15 @@ pub struct Guard {
 pub type Guards = List<Guard>;
 
 impl Guard {
+    ghost use Rattle.std.specs.Prelude.{◌≡◌, Some};
+    ghost use Rattle.std.specs.Option.{option_map};
+    ghost use Rattle.slack_rows.specs.Sides.{guard_by, guarded};
+
     /// A window and an edge, unless that is too far.
     pub fn at(window: Window, net: u32, ideal: i64) -> Option<Guard>
         requires from { IsWithin most_tick window.from }
         requires to { IsWithin most_tick window.to }
-        ensures { IfSome result (λ guard. (guard.window ≡ window) × (guard.net ≡ net)
-            × (guard.ideal ≡ ideal)) }
+        ensures { option_map guarded result ≡ guard_by window (Some (net, ideal)) }
     {
         if ideal.unsigned_abs() <= FAR {
             Some(Guard { window, net, ideal })

@@ -33,7 +33,7 @@ pub fn step_path<W: CyclicWave<Item = Value>>(
     requires tick { IsWithin most_tick step.tick }
     requires from { pos 0 ≤ℤ (pos (3 * period view.now.circuit.now.header) +ℤ step.tick) }
     ensures paths { OnOk result (GoesOn view.now.circuit.now (waves_of view.now.waves.now)
-        paths.old.nodes paths.new.nodes paths.new.met.entries) }
+        paths.old paths.new) }
     ensures near { IfOk result (λ found. IsNearPath paths.new.nodes found) }
     ensures edge { let c = view.now.circuit.now in let p = period c.header in
         IfOk result (λ found. option_and_then (edge_in paths.new.nodes) found
@@ -77,7 +77,7 @@ fn launched<W: CyclicWave<Item = Value>>(
     requires tick { IsWithin (2 ^ 20) tick }
     requires from { pos 0 ≤ℤ (pos (3 * period view.now.circuit.now.header) +ℤ tick) }
     ensures paths { OnOk result (GoesOn view.now.circuit.now (waves_of view.now.waves.now)
-        paths.old.nodes paths.new.nodes paths.new.met.entries) }
+        paths.old paths.new) }
     ensures is { let c = view.now.circuit.now in let p = period c.header in
         let ws = waves_of view.now.waves.now in
         IfOk result (λ ticks. ticks ≡ ago (edge_at_pin c ws corner held.pin Change
@@ -115,7 +115,7 @@ fn by_launch<W: CyclicWave<Item = Value>>(
     requires window { IsCloseWindow (period view.now.circuit.now.header) window }
     requires region { IsClose (period view.now.circuit.now.header) region }
     ensures paths { OnOk result (GoesOn view.now.circuit.now (waves_of view.now.waves.now)
-        paths.old.nodes paths.new.nodes paths.new.met.entries) }
+        paths.old paths.new) }
     ensures side { let c = view.now.circuit.now in let p = period c.header in
         IfOk result (λ side. side_in side ≡ held_side c (waves_of view.now.waves.now) held
         (window_in p window) (region_in p region)) }
@@ -144,7 +144,7 @@ pub fn by_launch_if<W: CyclicWave<Item = Value>>(
     requires window { IsCloseWindow (period view.now.circuit.now.header) window }
     requires region { IsClose (period view.now.circuit.now.header) region }
     ensures paths { OnOk result (GoesOn view.now.circuit.now (waves_of view.now.waves.now)
-        paths.old.nodes paths.new.nodes paths.new.met.entries) }
+        paths.old paths.new) }
     ensures side { let c = view.now.circuit.now in let p = period c.header in
         IfOk result (λ side. side_in side ≡ side_held c (waves_of view.now.waves.now) held
         (window_in p window) (region_in p region)) }

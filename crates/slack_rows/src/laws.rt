@@ -1,5 +1,6 @@
-//! Laws of slacks: a limit is broken exactly if there is a fault.
+//! Laws of slacks: a limit is broken exactly if there is a fault, and a starred number is the worst.
 
+ghost use Rattle.slack_rows.specs.Worst.{StarredIsWorst};
 ghost use Rattle.slack_rows.specs.Laws.{BrokenWhereTouched, EdgesBreakWithFaults, MarksBreakWithFaults, NetsBreakWithFaults, WidthsBreakWithFaults};
 
 /// One of the two slacks of a watch is broken exactly if data may change in one of its windows,
@@ -28,4 +29,10 @@ pub fn marks_break_with_faults()
 /// A driven net breaks its assertion exactly if one of its slacks is broken.
 pub fn nets_break_with_faults()
     ensures { NetsBreakWithFaults }
+{}
+
+/// The number of data that may change in every slot is that of the worst of all ways, over each
+/// launch and the edge that it is for.
+pub fn starred_is_worst()
+    ensures { StarredIsWorst }
 {}

@@ -6,8 +6,9 @@
 //! each checker, mark and assertion watches; `specs/Limit` the slack of a limit over all cases,
 //! `specs/Rows` which limits there are and in which order they stand, and `specs/Laws` that a
 //! limit is broken exactly if there is a fault. `specs/Views`, `specs/Held` and `specs/Arrived` say
-//! what the program's own types mean in these words, `specs/Known` what [`Rows`] knows over some
-//! cases, `specs/Shown` which end of a region each path of a slack explains.
+//! what the program's own types mean in these words, `specs/Sides` which slacks it has by the
+//! arrivals that it knows, `specs/Known` what [`Rows`] knows over some cases, `specs/Shown` which
+//! end of a region each path of a slack explains.
 //!
 //! The layer above makes [`Rows`] of a circuit and adds case after case.
 #![tactic(auto)]
@@ -49,7 +50,7 @@ mod laws;
 
 pub use laws::{
     broken_where_touched, edges_break_with_faults, marks_break_with_faults, nets_break_with_faults,
-    widths_break_with_faults,
+    starred_is_worst, widths_break_with_faults,
 };
 pub use limits::Parameters;
 pub use parameter::{Parameter, Subject, Word};

@@ -78,7 +78,7 @@ fn first<W: CyclicWave<Item = Value>>(
     requires knows { Knows view.now.circuit.now (waves_of view.now.waves.now) paths.old.nodes
         paths.old.met.entries }
     ensures paths { OnOk result (GoesOn view.now.circuit.now (waves_of view.now.waves.now)
-        paths.old.nodes paths.new.nodes paths.new.met.entries) }
+        paths.old paths.new) }
     ensures least { IfOk result (λ found. IsFirst sets.old.keys finding case sets.new.keys found) }
     ensures shown { IfOk result (λ found.
         ShowAt parameter.subject parameter.word finding found.«data» found.clock) }
@@ -110,7 +110,7 @@ fn lowered<W: CyclicWave<Item = Value>>(
     requires knows { Knows view.now.circuit.now (waves_of view.now.waves.now) paths.old.nodes
         paths.old.met.entries }
     ensures paths { OnOk result (GoesOn view.now.circuit.now (waves_of view.now.waves.now)
-        paths.old.nodes paths.new.nodes paths.new.met.entries) }
+        paths.old paths.new) }
     ensures least { IfOk result (λ found.
         IsLowered sets.old.keys least finding case sets.new.keys found) }
 {

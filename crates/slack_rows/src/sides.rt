@@ -13,6 +13,7 @@ ghost use Rattle.critical_paths.specs.Known.{Knows};
 ghost use Rattle.critical_paths.specs.Views.{Sees, later_by};
 ghost use Rattle.slack_rows.specs.Held.{AreAround, AreChanges, GoesOn, IsClose, IsCloseWindow, IsInPeriod, Lies, MayBeHeld, TellWindow, TellWindows, in_period, in_periods, launches_of, lies_by_ends, place_in, side_held, slacks_of_two, two_of, windows_about};
 ghost use Rattle.slack_rows.specs.Laws.{IsPlaced};
+ghost use Rattle.slack_rows.specs.Sides.{AreAbout, AreLeastAbout};
 ghost use Rattle.slack_rows.specs.Views.{end_at, region_in, finding_by_region, window_about, window_in};
 
 use crate::around::{Around, Side};
@@ -133,7 +134,7 @@ fn side_of<W: CyclicWave<Item = Value>>(
     requires window { IsCloseWindow (period view.now.circuit.now.header) window }
     requires region { IsClose (period view.now.circuit.now.header) region }
     ensures paths { OnOk result (GoesOn view.now.circuit.now (waves_of view.now.waves.now)
-        paths.old.nodes paths.new.nodes paths.new.met.entries) }
+        paths.old paths.new) }
     ensures lies { let c = view.now.circuit.now in let p = period c.header in
         let ws = waves_of view.now.waves.now in let w = window_in p window in
         IfOk result (Lies (side_held c ws held w) (two_of c ws held w) w (region_in p region)) }
@@ -176,7 +177,7 @@ fn around_in<W: CyclicWave<Item = Value>>(
     requires begin { begin ≤ 32768 }
     requires met { before.met ≤ 32768 }
     ensures paths { OnOk result (GoesOn view.now.circuit.now (waves_of view.now.waves.now)
-        paths.old.nodes paths.new.nodes paths.new.met.entries) }
+        paths.old paths.new) }
     ensures met { IfOk result (λ all. all.met ≤ before.met + 4096) }
     ensures are { let c = view.now.circuit.now in let p = period c.header in
         let ws = waves_of view.now.waves.now in let w = window_in p window in
@@ -210,7 +211,7 @@ fn around<W: CyclicWave<Item = Value>>(
     requires changes { All (IsInPeriod (period view.now.circuit.now.header)) watch.changes.now }
     requires few { length watch.changes.now ≤ 4096 }
     ensures paths { OnOk result (GoesOn view.now.circuit.now (waves_of view.now.waves.now)
-        paths.old.nodes paths.new.nodes paths.new.met.entries) }
+        paths.old paths.new) }
     ensures are { let c = view.now.circuit.now in let p = period c.header in
         let ws = waves_of view.now.waves.now in let w = window_in p window in IfOk result
         (AreAround p (side_held c ws watch.entry.held w) (two_of c ws watch.entry.held w) w
@@ -251,13 +252,16 @@ fn about<W: CyclicWave<Item = Value>>(
     requires changes { All (IsInPeriod (period view.now.circuit.now.header)) watch.changes.now }
     requires few { length watch.changes.now ≤ 4096 }
     ensures paths { OnOk result (GoesOn view.now.circuit.now (waves_of view.now.waves.now)
-        paths.old.nodes paths.new.nodes paths.new.met.entries) }
+        paths.old paths.new) }
     ensures level { IfOk result (λ found. found.level ≡ None) }
     ensures finding { let c = view.now.circuit.now in let p = period c.header in
         let ws = waves_of view.now.waves.now in (ev : Events) →
         AreChanges p ev watch.entry.changes.now → IsPlaced p (window_in p window) → IfOk result
         (TellWindow p ev (launches_of c ws watch.entry.held) (two_of c ws watch.entry.held)
         (place_in watch.entry.held) watch.entry.direction (window_in p window)) }
+    ensures are { IfOk result (AreAbout view.now.circuit.now (waves_of view.now.waves.now)
+        paths.new watch.entry.held watch.entry.direction
+        watch.entry.changes.now window) }
 {
     // no period is short
     let _period = view.period();
@@ -283,7 +287,7 @@ pub fn about_all<W: CyclicWave<Item = Value>>(
     requires changes { All (IsInPeriod (period view.now.circuit.now.header)) watch.changes.now }
     requires few { length watch.changes.now ≤ 4096 }
     ensures paths { OnOk result (GoesOn view.now.circuit.now (waves_of view.now.waves.now)
-        paths.old.nodes paths.new.nodes paths.new.met.entries) }
+        paths.old paths.new) }
     ensures level { IfOk result (λ found. found.level ≡ None) }
     ensures finding { let c = view.now.circuit.now in let p = period c.header in
         let ws = waves_of view.now.waves.now in
@@ -292,6 +296,9 @@ pub fn about_all<W: CyclicWave<Item = Value>>(
         IfOk result
         (TellWindows p ev (launches_of c ws watch.entry.held) (two_of c ws watch.entry.held)
         (place_in watch.entry.held) watch.entry.direction windows) }
+    ensures are { IfOk result (AreLeastAbout view.now.circuit.now (waves_of view.now.waves.now)
+        paths.old watch.entry.held watch.entry.direction watch.entry.changes.now
+        (map (λ e. window_about e watch.entry.extent) watch.entry.edges.now)) }
 {
     let mut all = Slacks::NONE;
     for edge in watch.edges {

@@ -1,15 +1,23 @@
 //! The slacks of a checker, a marked gate or an asserted net in a case.
 
-ghost use Rattle.std.specs.Prelude.{◌≡◌, IfOk, OnOk, Some, false, true, length};
+ghost use Rattle.std.specs.Prelude.{◌≡◌, ℕ, IfOk, OnOk, Some, false, true, length, slice_get};
 ghost use Rattle.scald_base.specs.Time.{period};
+ghost use Rattle.element_kinds.specs.Kinds.{check_of, may_be_marked};
 ghost use Rattle.flat_circuit.specs.Instances.{InstanceFits};
-ghost use Rattle.fixpoint_engine.specs.Waves.{waves_of};
+ghost use Rattle.fixpoint_engine.specs.Waves.{marked_pin as marked_in, waves_of};
+ghost use Rattle.critical_paths.specs.declared.direction.Direction.TheVariants.{Change};
+ghost use Rattle.critical_paths.specs.Event.{events};
+ghost use Rattle.critical_paths.specs.Reached.{KnowsArrivals};
+ghost use Rattle.critical_paths.specs.Region.{some_event};
 ghost use Rattle.critical_paths.specs.Known.{Knows};
 ghost use Rattle.critical_paths.specs.Views.{Sees};
+ghost use Rattle.slack_rows.specs.Exact.{AreOfInstance, AreOfKnown, AreOfPins, AreOfSubject, IsOfChecker};
 ghost use Rattle.slack_rows.specs.Held.{GoesOn};
 ghost use Rattle.slack_rows.specs.Known.{SlacksKnown, TellLimits};
-ghost use Rattle.slack_rows.specs.Limit.{by_arrivals, instance_by_arrivals, finding_in, finding_instance};
+ghost use Rattle.slack_rows.specs.Limit.{by_arrivals, instance_by_arrivals, finding_in, finding_instance, pin_folds};
 ghost use Rattle.slack_rows.specs.Rows.{limits_of, limits_of_instance};
+ghost use Rattle.slack_rows.specs.Sides.{has_windows};
+ghost use Rattle.slack_rows.specs.Views.{checks_edges};
 
 use crate::assertion::net_slacks;
 use crate::checker::checker_slacks;
@@ -37,11 +45,20 @@ fn instance_slacks<W: CyclicWave<Item = Value>>(
     requires fits { InstanceFits view.now.circuit.now.header
         (length view.now.circuit.now.nets) instance.now }
     ensures paths { OnOk result (GoesOn view.now.circuit.now (waves_of view.now.waves.now)
-        paths.old.nodes paths.new.nodes paths.new.met.entries) }
+        paths.old paths.new) }
     ensures finding { let c = view.now.circuit.now in let ws = waves_of view.now.waves.now in
         let j = Some instance.now in IfOk result
         (TellLimits (period c.header) (instance_by_arrivals c ws j)
         (λ word. finding_instance c ws word j) (limits_of_instance j)) }
+    ensures gate { let c = view.now.circuit.now in let ws = waves_of view.now.waves.now in
+        let j = instance.now in (marked : ℕ) → KnowsArrivals c ws paths.old →
+        may_be_marked j.kind ≡ true → marked_in j ≡ Some marked →
+        IfOk result (AreOfPins c ws j marked (length j.pins)) }
+    ensures checker { let c = view.now.circuit.now in let ws = waves_of view.now.waves.now in
+        let j = instance.now in (check : Check) → KnowsArrivals c ws paths.old →
+        may_be_marked j.kind ≡ false → check_of j.kind ≡ Some check → checks_edges check ≡ true →
+        some_event (period c.header) (events Change (pin_folds c ws j 1)) ≡ true →
+        has_windows c ws j check ≡ true → IfOk result (IsOfChecker c ws j check) }
 {
     if instance.kind.may_be_marked() {
         return match marked_pin(instance) {
@@ -68,10 +85,13 @@ fn slacks_of<W: CyclicWave<Item = Value>>(
     requires knows { Knows view.now.circuit.now (waves_of view.now.waves.now) paths.old.nodes
         paths.old.met.entries }
     ensures paths { OnOk result (GoesOn view.now.circuit.now (waves_of view.now.waves.now)
-        paths.old.nodes paths.new.nodes paths.new.met.entries) }
+        paths.old paths.new) }
     ensures finding { let c = view.now.circuit.now in let ws = waves_of view.now.waves.now in
         IfOk result (TellLimits (period c.header) (by_arrivals c ws subject)
         (finding_in c ws subject) (limits_of c subject)) }
+    ensures are { let c = view.now.circuit.now in let ws = waves_of view.now.waves.now in
+        (k : ℕ) (j : Instance) → KnowsArrivals c ws paths.old → subject ≡ Subject.Instance k →
+        slice_get c.instances k ≡ Some j → IfOk result (AreOfInstance c ws j) }
 {
     match subject {
         Subject::Net(number) => match view.circuit.net(number) {
@@ -109,9 +129,12 @@ pub fn slacks_at<W: CyclicWave<Item = Value>>(
         paths.old.met.entries }
     requires slacks { SlacksKnown view.now.circuit.now (waves_of view.now.waves.now) known slacks }
     ensures paths { OnOk result (GoesOn view.now.circuit.now (waves_of view.now.waves.now)
-        paths.old.nodes paths.new.nodes paths.new.met.entries) }
+        paths.old paths.new) }
     ensures finding { IfOk result (λ found. SlacksKnown view.now.circuit.now
         (waves_of view.now.waves.now) (Some subject) found) }
+    ensures are { let c = view.now.circuit.now in let ws = waves_of view.now.waves.now in
+        KnowsArrivals c ws paths.old → AreOfKnown c ws known slacks →
+        IfOk result (AreOfSubject c ws subject) }
     ensures same { known ≡ Some subject → IfOk result (λ found. found ≡ slacks) }
 {
     if is_other(known, subject) {

@@ -127,7 +127,7 @@ pub fn work_out<W: CyclicWave<Item = Value>>(
     requires knows { Knows view.now.circuit.now (waves_of view.now.waves.now) paths.old.nodes
         paths.old.met.entries }
     ensures paths { OnOk result (GoesOn view.now.circuit.now (waves_of view.now.waves.now)
-        paths.old.nodes paths.new.nodes paths.new.met.entries) }
+        paths.old paths.new) }
     ensures known { OnOk result (AreWorkedOut paths.new.known.entries
         (place_on clock corner held.pin.target)) }
     ensures stays { OnOk result (StaysKnown paths.old.known.entries paths.new.known.entries) }
@@ -246,7 +246,7 @@ pub fn edge_of<W: CyclicWave<Item = Value>>(
     requires held { IsHeld view.now.circuit.now held }
     requires window { IsCloseWindow (period view.now.circuit.now.header) window }
     ensures paths { OnOk result (GoesOn view.now.circuit.now (waves_of view.now.waves.now)
-        paths.old.nodes paths.new.nodes paths.new.met.entries) }
+        paths.old paths.new) }
     ensures edge { let c = view.now.circuit.now in let p = period c.header in
         let step = step_held held window corner in IfOk result (λ found. found
         ≡ option_map (finding_back (3 * p)) (edge_at_pin c (waves_of view.now.waves.now) step.corner
@@ -326,7 +326,7 @@ fn by_two<W: CyclicWave<Item = Value>>(
     requires window { IsCloseWindow (period view.now.circuit.now.header) window }
     requires region { IsClose (period view.now.circuit.now.header) region }
     ensures paths { OnOk result (GoesOn view.now.circuit.now (waves_of view.now.waves.now)
-        paths.old.nodes paths.new.nodes paths.new.met.entries) }
+        paths.old paths.new) }
     ensures level { IfOk result (λ found. IfSome found (λ all. all.level ≡ None)) }
     ensures broken { IfOk result (λ found. IfSome found IsBrokenByTwo) }
     ensures known { let c = view.now.circuit.now in OnOk result (TwoWorkedOut
@@ -373,7 +373,7 @@ pub fn by_two_if<W: CyclicWave<Item = Value>>(
     requires met { IfSome met (λ found. IsHeld view.now.circuit.now found.0
         × IsClose (period view.now.circuit.now.header) found.1) }
     ensures paths { OnOk result (GoesOn view.now.circuit.now (waves_of view.now.waves.now)
-        paths.old.nodes paths.new.nodes paths.new.met.entries) }
+        paths.old paths.new) }
     ensures level { IfOk result (λ two. IfSome two (λ found. found.level ≡ None)) }
     ensures broken { IfOk result (λ two. IfSome two IsBrokenByTwo) }
     ensures only { IfOk result (λ two. met ≡ None → two ≡ None) }

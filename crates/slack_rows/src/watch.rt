@@ -1,6 +1,6 @@
 //! Slacks of changes that are not to come in some slots.
 
-ghost use Rattle.std.specs.Prelude.{◌≡◌, IfOk, IfSome, OnOk, if◌then◌else◌, is_some, length};
+ghost use Rattle.std.specs.Prelude.{◌≡◌, IfOk, OnOk, if◌then◌else◌, is_some, length};
 ghost use Rattle.scald_base.specs.Time.{period};
 ghost use Rattle.step_values.specs.Cell.{values};
 ghost use Rattle.skew_algebra.specs.Wave.{folded};
@@ -10,7 +10,8 @@ ghost use Rattle.critical_paths.specs.Event.{Events};
 ghost use Rattle.critical_paths.specs.Region.{IsCyclic};
 ghost use Rattle.critical_paths.specs.Known.{Knows};
 ghost use Rattle.critical_paths.specs.Views.{Sees, passing};
-ghost use Rattle.slack_rows.specs.Held.{AreSlots, GoesOn, IsSlots, MayBeHeld, TellParts, launches_of, place_in, two_of, watch_at, without_windows};
+ghost use Rattle.slack_rows.specs.Held.{AreSlots, GoesOn, IsSlots, MayBeHeld, TellParts, launches_of, place_in, two_of, watch_at};
+ghost use Rattle.slack_rows.specs.Sides.{AreAtSlots};
 ghost use Rattle.slack_rows.specs.Slack.{Nowhere};
 ghost use Rattle.slack_rows.specs.Views.{place_without};
 
@@ -79,14 +80,14 @@ pub fn still_slacks<W: CyclicWave<Item = Value>>(
     requires changes { IsSlots (period view.now.circuit.now.header) changes.now }
     requires still { IsSlots (period view.now.circuit.now.header) still.now }
     ensures paths { OnOk result (GoesOn view.now.circuit.now (waves_of view.now.waves.now)
-        paths.old.nodes paths.new.nodes paths.new.met.entries) }
+        paths.old paths.new) }
     ensures finding { let c = view.now.circuit.now in let p = period c.header in
         let ws = waves_of view.now.waves.now in (ev quiet : Events) →
         IsCyclic p ev → IsCyclic p quiet → AreSlots p ev changes.now → AreSlots p quiet still.now →
         IfOk result (TellParts p (launches_of c ws held) (two_of c ws held) (place_in held)
         direction (watch_at p ev quiet)) }
-    ensures without { IfSome (without_windows held direction changes.now still.now)
-        (λ found. IfOk result (λ finding. finding ≡ found)) }
+    ensures are { IfOk result (AreAtSlots view.now.circuit.now (waves_of view.now.waves.now)
+        paths.old held direction changes.now still.now) }
 {
     // no period is short
     let _period = view.period();

@@ -1,17 +1,19 @@
 //! Slacks if the data may change in every slot: by its ways from the edges of the clock.
 
-ghost use Rattle.std.specs.Prelude.{◌≡◌, ◌==◌, ◌+◌, ◌<◌, ◌≤◌, ◌^◌, ◌-ℤ◌, ℕ, ℤ, List, fold, not, true, IfOk, IfSome, None, OnOk, Some, length, slice_get};
-ghost use Rattle.std.specs.List.{All, list_any};
+ghost use Rattle.std.specs.Prelude.{◌≡◌, ◌==◌, ◌++◌, [], ◌+◌, ◌<◌, ◌≤◌, ◌^◌, ◌-ℤ◌, fold, map, not, true, false, IfOk, IfSome, None, OnOk, Some, length, slice_get};
+ghost use Rattle.std.specs.List.{All, cons_option, list_any};
+ghost use Rattle.std.specs.Option.{option_map};
 ghost use Rattle.scald_base.specs.Time.{period as period_of};
 ghost use Rattle.fixpoint_engine.specs.Waves.{target_wire, waves_of};
 ghost use Rattle.critical_paths.specs.Path.{bound};
 ghost use Rattle.critical_paths.specs.Tick.{IsWithin, most_tick};
 ghost use Rattle.critical_paths.specs.Known.{Knows};
-ghost use Rattle.critical_paths.specs.Reached.{arrivals_in};
+ghost use Rattle.critical_paths.specs.declared.direction.Corner.TheVariants.{Late, Early};
+ghost use Rattle.critical_paths.specs.Reached.{StaysKnown, arrivals_in};
 ghost use Rattle.critical_paths.specs.Views.{Sees};
-ghost use Rattle.slack_rows.specs.declared.guard.Guard.{Guard};
-ghost use Rattle.slack_rows.specs.Arrived.{GuardsWorkedOut, IsGuardOf, MayAdd, behind_wire, is_nearer, moved, finding_side, finding_way, with_arrival as with_each, with_guard, with_way};
+ghost use Rattle.slack_rows.specs.Arrived.{GuardsWorkedOut, behind_wire, is_nearer, moved, finding_side, finding_way, with_arrival as with_each, with_guard, with_way};
 ghost use Rattle.slack_rows.specs.Held.{AreOfWays, GoesOn, IsHeld, IsInPeriod};
+ghost use Rattle.slack_rows.specs.Sides.{AreByWays, guard_by, guarded, guards_of};
 ghost use Rattle.slack_rows.specs.Views.{is_starred, slack_by};
 
 use crate::guard::{Guard, Guards};
@@ -54,37 +56,32 @@ fn is_next(edges: &[Guard], edge: Guard, launch: Launch) -> bool
     true
 }
 
-/// A window and the edge of a clock that it is about, unless that is too far.
-fn guard_of(window: Window, edge: (u32, i64)) -> Option<Guard>
+/// A window, with the edge of a clock that it is held against; none if there is no edge, or it is
+/// too far.
+fn guard_of(window: Window, edge: Option<(u32, i64)>) -> Option<Guard>
     requires from { IsWithin most_tick window.from }
     requires to { IsWithin most_tick window.to }
-    ensures { IfSome result (IsGuardOf window edge) }
+    ensures { option_map guarded result ≡ guard_by window edge }
 {
-    let (net, ideal) = edge;
-    Guard::at(window, net, ideal)
-}
-
-/// Adds the edge that a clock's path begins at, if it begins at one.
-fn add_edge(edges: &mut Guards, window: Window, found: Option<(u32, i64)>) -> Result<(), NoMemory>
-    requires from { IsWithin most_tick window.from }
-    requires to { IsWithin most_tick window.to }
-    ensures none { found ≡ None → OnOk result (edges.new ≡ edges.old) }
-    ensures some { (edge : ℕ × ℤ) → found ≡ Some edge →
-        OnOk result (MayAdd (IsGuardOf window edge) edges.old edges.new) }
-{
-    let Some(edge) = found else {
-        return Ok(());
-    };
     // no edge of a path to a window is far
-    let Some(guard) = guard_of(window, edge) else {
-        return Ok(());
-    };
-    edges.push(guard)?;
-    Ok(())
+    match edge {
+        Some((net, ideal)) => Guard::at(window, net, ideal),
+        None => None,
+    }
 }
 
-/// The edges of windows whose clock's path begins at a clock: up to the begin of a window, or
-/// from its end.
+/// Adds what guards a window, if something does.
+fn add_guard(guards: &mut Guards, guard: Option<Guard>) -> Result<(), NoMemory>
+    ensures { OnOk result (guards.new ≡ guards.old ++ cons_option guard []) }
+{
+    match guard {
+        Some(guard) => guards.push(guard),
+        None => Ok(()),
+    }
+}
+
+/// The edges that windows about edges are held against: with its begin, for the last changes of the
+/// data, or with its end, for the first.
 fn edges<W: CyclicWave<Item = Value>>(
     view: &View<W>,
     paths: &mut Paths,
@@ -98,14 +95,16 @@ fn edges<W: CyclicWave<Item = Value>>(
     requires held { IsHeld view.now.circuit.now held }
     requires edges { All (IsInPeriod (period_of view.now.circuit.now.header)) watch.edges.now }
     requires extent { watch.extent.before ≤ period_of view.now.circuit.now.header }
-    ensures { OnOk result (GoesOn view.now.circuit.now (waves_of view.now.waves.now)
-        paths.old.nodes paths.new.nodes paths.new.met.entries) }
+    ensures paths { OnOk result (GoesOn view.now.circuit.now (waves_of view.now.waves.now)
+        paths.old paths.new) }
+    ensures are { IfOk result (λ found. map guarded found ≡ guards_of view.now.circuit.now
+        (waves_of view.now.waves.now) held corner watch.entry.extent watch.entry.edges.now) }
 {
     let mut found = Guards::new(view.alloc);
     for edge in watch.edges {
         let window = window_of(*edge, watch.extent, view.period());
-        let ideal = edge_of(view, paths, held, window, corner)?;
-        add_edge(&mut found, window, ideal)?;
+        let against = edge_of(view, paths, held, window, corner)?;
+        add_guard(&mut found, guard_of(window, against))?;
     }
     Ok(found)
 }
@@ -273,8 +272,9 @@ fn work_out_all<W: CyclicWave<Item = Value>>(
     requires knows { Knows view.now.circuit.now (waves_of view.now.waves.now) paths.old.nodes
         paths.old.met.entries }
     ensures paths { OnOk result (GoesOn view.now.circuit.now (waves_of view.now.waves.now)
-        paths.old.nodes paths.new.nodes paths.new.met.entries) }
+        paths.old paths.new) }
     ensures known { OnOk result (GuardsWorkedOut paths.new.known.entries held corner edges.now) }
+    ensures stays { OnOk result (StaysKnown paths.old.known.entries paths.new.known.entries) }
 {
     for number in 0..edges.len() {
         let edge = guard_at(edges, number);
@@ -283,31 +283,65 @@ fn work_out_all<W: CyclicWave<Item = Value>>(
     Ok(())
 }
 
-/// The least slack of one side of windows, over all launches and the edges that they are for; a
-/// reason if there is none.
-fn side<W: CyclicWave<Item = Value>>(
+/// The least slacks of both sides, over all launches and the edges that they are for.
+fn both_sides<W: CyclicWave<Item = Value>>(
+    view: &View<W>,
+    paths: &mut Paths,
+    held: Held,
+    late: &[Guard],
+    early: &[Guard],
+) -> Result<Slacks, NoMemory>
+    requires sees { Sees view.now.circuit.now view.now.waves.now view.now.hazards.now }
+    requires knows { Knows view.now.circuit.now (waves_of view.now.waves.now) paths.old.nodes
+        paths.old.met.entries }
+    ensures paths { OnOk result (GoesOn view.now.circuit.now (waves_of view.now.waves.now)
+        paths.old paths.new) }
+    ensures level { IfOk result (λ found. found.level ≡ None) }
+    ensures late { OnOk result (GuardsWorkedOut paths.new.known.entries held Late late.now) }
+    ensures early { OnOk result (GuardsWorkedOut paths.new.known.entries held Early early.now) }
+    ensures before { IfOk result (λ found. found.before ≡ Some (finding_side
+        view.now.circuit.now paths.new.known.entries paths.new.arrivals held Late late.now)) }
+    ensures after { IfOk result (λ found. found.after ≡ Some (finding_side
+        view.now.circuit.now paths.new.known.entries paths.new.arrivals held Early early.now)) }
+    ensures ways { IfOk result (AreOfWays true) }
+{
+    work_out_all(view, paths, late, held, Corner::Late)?;
+    work_out_all(view, paths, early, held, Corner::Early)?;
+    let before = least_finding(view, paths, late, held, Corner::Late);
+    let after = least_finding(view, paths, early, held, Corner::Early);
+    Ok(Slacks {
+        level: None,
+        before: Some(before),
+        after: Some(after),
+    })
+}
+
+/// The same, by the edges that the windows are held against for the last changes.
+fn by_late<W: CyclicWave<Item = Value>>(
     view: &View<W>,
     paths: &mut Paths,
     watch: Watch,
     held: Held,
-    corner: Corner,
-) -> Result<Finding, NoMemory>
+    late: &[Guard],
+) -> Result<Slacks, NoMemory>
     requires sees { Sees view.now.circuit.now view.now.waves.now view.now.hazards.now }
     requires knows { Knows view.now.circuit.now (waves_of view.now.waves.now) paths.old.nodes
         paths.old.met.entries }
     requires held { IsHeld view.now.circuit.now held }
     requires edges { All (IsInPeriod (period_of view.now.circuit.now.header)) watch.edges.now }
     requires extent { watch.extent.before ≤ period_of view.now.circuit.now.header }
+    requires late { map guarded late.now ≡ guards_of view.now.circuit.now
+        (waves_of view.now.waves.now) held Late watch.extent watch.edges.now }
     ensures paths { OnOk result (GoesOn view.now.circuit.now (waves_of view.now.waves.now)
-        paths.old.nodes paths.new.nodes paths.new.met.entries) }
-    ensures is { let c = view.now.circuit.now in IfOk result (λ finding. (guards : List Guard) ×
-        (GuardsWorkedOut paths.new.known.entries held corner guards
-        × (finding ≡ finding_side c paths.new.known.entries paths.new.arrivals held corner guards))) }
-    ensures starred { IfOk result (λ finding. is_starred (slack_by finding.slack) ≡ true) }
+        paths.old paths.new) }
+    ensures level { IfOk result (λ found. found.level ≡ None) }
+    ensures ways { IfOk result (AreOfWays true) }
+    ensures are { IfOk result (AreByWays view.now.circuit.now (waves_of view.now.waves.now)
+        paths.new held watch.entry.extent watch.entry.edges.now) }
 {
-    let edges = edges(view, paths, watch, held, corner)?;
-    work_out_all(view, paths, edges.as_slice(), held, corner)?;
-    Ok(least_finding(view, paths, edges.as_slice(), held, corner))
+    let early = edges(view, paths, watch, held, Corner::Early)?;
+    let found = both_sides(view, paths, held, late, early.as_slice())?;
+    Ok(found)
 }
 
 /// The least slacks before windows and after them of data that may change in every slot.
@@ -324,19 +358,18 @@ pub fn by_ways<W: CyclicWave<Item = Value>>(
     requires edges { All (IsInPeriod (period_of view.now.circuit.now.header)) watch.edges.now }
     requires extent { watch.extent.before ≤ period_of view.now.circuit.now.header }
     ensures paths { OnOk result (GoesOn view.now.circuit.now (waves_of view.now.waves.now)
-        paths.old.nodes paths.new.nodes paths.new.met.entries) }
+        paths.old paths.new) }
     ensures level { IfOk result (λ found. found.level ≡ None) }
     ensures ways { IfOk result (AreOfWays (not (length watch.entry.edges.now == 0))) }
+    ensures are { (length watch.entry.edges.now == 0) ≡ false → IfOk result
+        (AreByWays view.now.circuit.now (waves_of view.now.waves.now) paths.new held
+        watch.entry.extent watch.entry.edges.now) }
 {
     // about no edge nothing can break
     if watch.edges.is_empty() {
         return Ok(Slacks::NONE);
     }
-    let before = side(view, paths, watch, held, Corner::Late)?;
-    let after = side(view, paths, watch, held, Corner::Early)?;
-    Ok(Slacks {
-        level: None,
-        before: Some(before),
-        after: Some(after),
-    })
+    let late = edges(view, paths, watch, held, Corner::Late)?;
+    let found = by_late(view, paths, watch, held, late.as_slice())?;
+    Ok(found)
 }

@@ -4,6 +4,7 @@ ghost use Rattle.std.specs.Prelude.{◌≡◌, ◌<◌, ◌^◌, pos, ◌+ℤ◌
 ghost use Rattle.std.specs.Option.{option_map};
 ghost use Rattle.scald_base.specs.Signal.{turned};
 ghost use Rattle.scald_base.specs.Time.{period};
+ghost use Rattle.flat_circuit.specs.declared.instance.Pin.{Pin};
 ghost use Rattle.flat_circuit.specs.Circuit.{driver};
 ghost use Rattle.flat_circuit.specs.Instances.{InstanceFits, PinExists};
 ghost use Rattle.fixpoint_engine.specs.Pins.{read};
@@ -15,9 +16,9 @@ ghost use Rattle.flat_circuit.specs.Limits.{high_of, low_of};
 ghost use Rattle.critical_paths.specs.Tick.{IsWithin, most_tick};
 ghost use Rattle.critical_paths.specs.Views.{Sees};
 ghost use Rattle.slack_rows.specs.Limit.{begin_of, finding_level};
-ghost use Rattle.slack_rows.specs.Pulse.{begins_by, begins_if, begins_in, changes_again, latest_begin, left_at, left_by, left_if, left_in, left_of as left_after, may_change_again, narrowest as narrowest_of, finding_wave};
+ghost use Rattle.slack_rows.specs.Pulse.{begins_at, begins_by, begins_if, begins_in, changes_again, latest_begin, left_at, left_by, left_if, left_in, left_of as left_after, may_change_again, narrowest as narrowest_of, finding_wave};
 ghost use Rattle.slack_rows.specs.Slack.{finding_of};
-ghost use Rattle.slack_rows.specs.Views.{Tells, comes_again};
+ghost use Rattle.slack_rows.specs.Views.{IsPulseWindow, Tells, comes_again};
 
 use crate::slack::{By, Finding, Slack, Slacks};
 use crate::window::Window;
@@ -265,6 +266,9 @@ fn swallowed<W: CyclicWave<Item = Value>>(
     ensures left { let c = view.now.circuit.now in
         IfOk result (λ found. option_map (λ left. left.1) found
         ≡ left_at c (waves_of view.now.waves.now) level pin) }
+    ensures begin { let c = view.now.circuit.now in
+        IfOk result (λ found. option_map (λ left. left.0) found
+        ≡ begins_at c (waves_of view.now.waves.now) level pin) }
 {
     match pin.target {
         Target::Constant(_) => Ok(None),
@@ -303,6 +307,9 @@ fn width<W: CyclicWave<Item = Value>>(
         let wave = read (wave_shown c ws pin).cells in
         IfOk result (λ found. IfSome found (λ finding. comes_again finding.by
         ≡ changes_again wave (narrowest_of (period c.header) level wave))) }
+    ensures window { let c = view.now.circuit.now in
+        IfOk result (λ found. IfSome found (IsPulseWindow limit
+        (begins_at c (waves_of view.now.waves.now) level pin))) }
 {
     let wave = pin_wave(view.alloc, view.circuit, view.waves, pin)?;
     let shown = wave.wave();
@@ -348,11 +355,17 @@ pub fn width_slacks<W: CyclicWave<Item = Value>>(
     requires checks { checks_pulses checker.now.kind ≡ true }
     requires fits { InstanceFits view.now.circuit.now.header
         (length view.now.circuit.now.nets) checker.now }
-    ensures { let c = view.now.circuit.now in let ws = waves_of view.now.waves.now in
+    ensures finding { let c = view.now.circuit.now in let ws = waves_of view.now.waves.now in
         let j = checker.now in let first = slice_get j.pins 0 in
         IfOk result (λ found.
         (Tells (period c.header) found.before (finding_level c ws j true (high_of j.limits) first))
         × (Tells (period c.header) found.after (finding_level c ws j false (low_of j.limits) first))) }
+    ensures windows { (pin : Pin) → slice_get checker.now.pins 0 ≡ Some pin →
+        let c = view.now.circuit.now in let ws = waves_of view.now.waves.now in
+        IfOk result (λ found. IfSome found.before
+        (IsPulseWindow (high_of checker.now.limits) (begins_at c ws true pin))
+        × IfSome found.after
+        (IsPulseWindow (low_of checker.now.limits) (begins_at c ws false pin))) }
 {
     let pin = first_pin(checker);
     Ok(Slacks {

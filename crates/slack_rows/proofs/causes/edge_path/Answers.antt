@@ -4,7 +4,7 @@ use Rattle.critical_paths.specs.Event.{other_corner}
 use Rattle.critical_paths.specs.Views.{IsPin}
 use Rattle.fixpoint_engine.specs.Waves.{waves_of}
 use Rattle.slack_rows.specs.Shown.{IsPathOf}
-use Rattle.slack_rows.proofs.Launching.{explains_found}
+use Rattle.slack_rows.proofs.Launching.{explains_found, goes_same}
 use Rattle.slack_rows.proofs.Pathing.{step_corner, step_pin}
 use Rattle.slack_rows.proofs.causes.edge_path.Goals as goal
 
@@ -29,3 +29,8 @@ returns-clause-is g c =
     subst (λ (e : PinEvent). IsPathOf c.args.view.now.circuit.now
     (waves_of c.args.view.now.waves.now) c.pin_path.new.paths.nodes e c.in_ok-path.path)
     c.edge.ensures c.in_ok-path.ensures.path
+
+pub returns-clause-paths : goal.returns-clause-paths
+returns-clause-paths g c =
+    let path = c.in_ok-path.ensures in
+    goes_same _ _ _ _ path.knows path.grows path.known path.arrivals

@@ -1,5 +1,5 @@
 use Rattle.critical_paths.specs.Event.{other_corner}
-use Rattle.slack_rows.proofs.Launching.{explains_stays}
+use Rattle.slack_rows.proofs.Launching.{explains_stays, goes_then}
 use Rattle.slack_rows.proofs.Pathing.{is_held}
 use Rattle.slack_rows.proofs.causes.held_paths.Goals as goal
 
@@ -17,3 +17,6 @@ pub returns-clause-corner : goal.returns-clause-corner
 returns-clause-corner g c =
     explains_stays _ _ (other_corner c.args.corner) c.in_ok-clock.clock
     c.in_ok-data.ensures.paths.grows c.in_ok-clock.ensures.corner
+
+pub returns-clause-paths : goal.returns-clause-paths
+returns-clause-paths g c = goes_then _ _ _ _ _ c.in_ok-clock.ensures.paths c.in_ok-data.ensures.paths

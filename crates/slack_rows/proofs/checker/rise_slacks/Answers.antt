@@ -10,6 +10,8 @@ use Rattle.critical_paths.specs.Views.{ticks_of_region}
 use Rattle.critical_paths.specs.declared.region.Region.{Region as Ticked}
 use Rattle.slack_rows.specs.declared.slack.Reason.TheVariants.{Clock}
 use Rattle.slack_rows.specs.declared.slack.Slacks.{Slacks}
+use Rattle.slack_rows.specs.declared.window.Extent.{Extent}
+use Rattle.slack_rows.specs.Sides.{AreAboutEdges}
 use Rattle.slack_rows.specs.Held.{AreOfWays, launches_of, two_of, windows_about}
 use Rattle.slack_rows.specs.Slack.{is_met}
 use Rattle.slack_rows.specs.Laws.{IsPlaced}
@@ -73,3 +75,26 @@ returns-clause-never g c input always =
     let not_all = sym (c.in_ok-edges.ensures.are.all ∙ ap (all_events p) (may_are Rise cells)) ∙ c.if-edges.false in
     let bad : true ≡ false = sym always ∙ not_all in
     absurd (cc)
+
+pub returns-then-edges-clause-are : goal.returns-then-edges-clause-are
+returns-then-edges-clause-are g c input some =
+    let p = period c.args.view.now.circuit.now.header in
+    let cells = g.W.CyclicWave.cells c.args.clock.now in
+    let all = sym (c.in_ok-edges.ensures.are.all ∙ ap (all_events p) (may_are Rise cells)) ∙ c.if-edges.true in
+    let bad : true ≡ false = sym all ∙ some in
+    absurd (cc)
+
+pub returns-clause-are : goal.returns-clause-are
+returns-clause-are g c input some =
+    let circuit = c.args.view.now.circuit.now in
+    let ws = waves_of c.args.view.now.waves.now in
+    let p = period circuit.header in
+    let cells = g.W.CyclicWave.cells c.args.clock.now in
+    let paths = c.about_edges.new.paths in
+    let edges_are : c.as_slice-regions.result.now ≡ map ticks_of_region (regions p (events Rise (read cells))) =
+    c.as_slice-regions.ensures ∙ c.in_ok-edges.ensures.are.regions
+    ∙ ap (λ (ev : Events). map ticks_of_region (regions p ev)) (may_are Rise cells) in
+    subst (λ (extent : Extent). AreAboutEdges circuit ws c.args.paths.now paths c.args.held extent
+    (map ticks_of_region (regions p (events Rise (read cells)))) c.args.changes.now c.in_ok-found.found) c.edge_limits.ensures
+    (subst (λ (edges : List Ticked). AreAboutEdges circuit ws c.args.paths.now paths c.args.held c.edge_limits.result edges c.args.changes.now
+    c.in_ok-found.found) edges_are c.in_ok-found.ensures.are)

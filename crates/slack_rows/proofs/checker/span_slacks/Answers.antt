@@ -1,4 +1,4 @@
-use Rattle.std.proofs.Common.{◌≡◌, ℕ, ◌≤◌, Bool, true, false, ◌&&◌, List, Some, map, sym, ap, subst, ◌∙◌, arith}
+use Rattle.std.proofs.Common.{◌≡◌, ℕ, ◌≤◌, Bool, true, false, ◌&&◌, List, Some, length, map, sym, ap, subst, ◌∙◌, arith}
 use Rattle.std.specs.List.{All, AllByRecursion}
 use Rattle.scald_base.specs.Time.{period}
 use Rattle.fixpoint_engine.specs.Pins.{read}
@@ -10,6 +10,8 @@ use Rattle.critical_paths.specs.Region.{some_event}
 use Rattle.critical_paths.specs.Views.{ticks_of_region}
 use Rattle.critical_paths.specs.declared.region.Region.{Region as Ticked}
 use Rattle.slack_rows.specs.declared.slack.Slacks.{Slacks}
+use Rattle.slack_rows.specs.declared.window.Extent.{Extent}
+use Rattle.slack_rows.specs.Sides.{AreAboutEdges}
 use Rattle.slack_rows.specs.Slack.{is_met}
 use Rattle.slack_rows.specs.Views.{window_about, window_in}
 use Rattle.slack_rows.specs.Held.{AreOfWays, IsInPeriod, launches_of, two_of, windows_about}
@@ -73,3 +75,21 @@ pub returns-clause-never : goal.returns-clause-never
 returns-clause-never g c input always =
     let bad : true ≡ false = sym always ∙ sym c.stays_high.ensures ∙ c.if-stays_high.false in
     absurd (cc)
+
+pub returns-then-stays_high-clause-are : goal.returns-then-stays_high-clause-are
+returns-then-stays_high-clause-are g c input some =
+    let bad : true ≡ false = sym c.if-stays_high.true ∙ c.stays_high.ensures ∙ some in
+    absurd (cc)
+
+pub returns-clause-are : goal.returns-clause-are
+returns-clause-are g c input some =
+    let circuit = c.args.view.now.circuit.now in
+    let ws = waves_of c.args.view.now.waves.now in
+    let cells = g.W.CyclicWave.cells c.args.clock.now in
+    let paths = c.about_edges.new.paths in
+    let edges_are : c.as_slice-regions.result.now ≡ map ticks_of_region (spans (length cells) (read cells)) =
+    c.as_slice-regions.ensures ∙ c.in_ok-spans.ensures in
+    subst (λ (extent : Extent). AreAboutEdges circuit ws c.args.paths.now paths c.args.held extent
+    (map ticks_of_region (spans (length cells) (read cells))) c.args.changes.now c.in_ok-found.found) c.edge_limits.ensures
+    (subst (λ (edges : List Ticked). AreAboutEdges circuit ws c.args.paths.now paths c.args.held c.edge_limits.result edges c.args.changes.now
+    c.in_ok-found.found) edges_are c.in_ok-found.ensures.are)

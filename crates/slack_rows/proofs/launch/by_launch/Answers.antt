@@ -12,7 +12,7 @@ use Rattle.slack_rows.proofs.Launching.{goes_then}
 use Rattle.slack_rows.proofs.launch.by_launch.Goals as goal
 
 pub returns-clause-paths : goal.returns-clause-paths
-returns-clause-paths g c = goes_then _ _ _ _ _ _ _ c.in_ok-last.ensures.paths c.in_ok-first.ensures.paths
+returns-clause-paths g c = goes_then _ _ _ _ _ c.in_ok-last.ensures.paths c.in_ok-first.ensures.paths
 
 pub returns-clause-side : goal.returns-clause-side
 returns-clause-side g c =

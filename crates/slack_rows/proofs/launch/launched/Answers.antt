@@ -14,7 +14,7 @@ pub ago_if-requires-clause-clock : goal.ago_if-requires-clause-clock
 ago_if-requires-clause-clock g c = near_stays _ _ c.in_ok-clock.clock c.in_ok-data.ensures.paths.grows c.in_ok-clock.ensures.near
 
 pub returns-clause-paths : goal.returns-clause-paths
-returns-clause-paths g c = goes_then _ _ _ _ _ _ _ c.in_ok-clock.ensures.paths c.in_ok-data.ensures.paths
+returns-clause-paths g c = goes_then _ _ _ _ _ c.in_ok-clock.ensures.paths c.in_ok-data.ensures.paths
 
 pub returns-clause-is : goal.returns-clause-is
 returns-clause-is g c =

@@ -1,11 +1,13 @@
 use Rattle.std.proofs.Common.{◌<◌, arith}
 use Rattle.scald_base.specs.Time.{period}
 use Rattle.fixpoint_engine.specs.Waves.{waves_of}
-use Rattle.slack_rows.proofs.Launching.{found_edge, found_near}
+use Rattle.slack_rows.proofs.Launching.{found_edge, found_near, goes_same}
 use Rattle.slack_rows.proofs.launch.step_path.Goals as goal
 
 pub returns-clause-paths : goal.returns-clause-paths
-returns-clause-paths g c = record { knows = c.in_ok-found.ensures.knows; grows = c.in_ok-found.ensures.grows }
+returns-clause-paths g c =
+    let found = c.in_ok-found.ensures in
+    goes_same _ _ _ _ found.knows found.grows found.known found.arrivals
 
 pub returns-clause-near : goal.returns-clause-near
 returns-clause-near g c = found_near _ c.in_ok-found.found _ c.in_ok-found.ensures.path c.in_ok-found.ensures.short

@@ -17,7 +17,7 @@ loop-number-init g c =
     let ws = waves_of c.args.view.now.waves.now in
     let w = window_in (period circuit.header) c.args.window in
     record {
-      goes = goes_none circuit ws c.args.paths.now.nodes c.args.paths.now.met.entries c.requires.knows;
+      goes = goes_none circuit ws c.args.paths.now c.requires.knows;
       met = omega arith;
       short = omega arith;
       begin = (let none : 0 ≡ 0 * period circuit.header = grind arith in none);
@@ -35,7 +35,7 @@ loop-number-preserved g c =
     let short = so.short in
     let longest = c.period-period.ensures.longest in
     record {
-      goes = goes_then _ _ _ _ _ _ _ so.goes c.in_ok-all.ensures.paths;
+      goes = goes_then _ _ _ _ _ so.goes c.in_ok-all.ensures.paths;
       met = omega (arith, met, before);
       short = omega (arith, short, longest);
       begin = next_begin c.loop-number.begin c.loop-number.number (period circuit.header) c.period-period.result _ so.begin c.period-period.ensures.is refl;

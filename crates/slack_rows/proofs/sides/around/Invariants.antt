@@ -9,7 +9,7 @@ use Rattle.slack_rows.proofs.sides.around.Given as goal
 abbrev pub invariant-loop-number : goal.invariant-loop-number
 invariant-loop-number g l =
     record {
-      goes : GoesOn l.view.circuit.now (waves_of l.view.waves.now) l.fn.paths.nodes l.paths.nodes l.paths.met.entries;
+      goes : GoesOn l.view.circuit.now (waves_of l.view.waves.now) l.fn.paths l.paths;
       met : l.all.met ≤ 4096 * l.number;
       short : l.begin ≤ 4096 * l.number;
       begin : l.begin ≡ l.number * period l.view.circuit.now.header;

@@ -13,7 +13,7 @@ loop-region-init g c =
     let ws = waves_of c.args.view.now.waves.now in
     let w = window_in (period circuit.header) c.args.window in
     record {
-      goes = goes_none circuit ws c.args.paths.now.nodes c.args.paths.now.met.entries c.requires.knows;
+      goes = goes_none circuit ws c.args.paths.now c.requires.knows;
       met = omega arith;
       are = around_begin (period circuit.header) (side_held circuit ws c.args.watch.held w) (two_of circuit ws c.args.watch.held w) w c.args.begin
           c.args.watch.changes.now c.args.before;
@@ -29,7 +29,7 @@ loop-region-preserved g c =
     let most = met_step (meets_window c.in_ok-side.side) c.loop-region.all.met (c.args.before.met + c.loop-region.region-index) so.met in
     let met = more.met in
     record {
-      goes = goes_then _ _ _ _ _ _ _ so.goes c.in_ok-side.ensures.paths;
+      goes = goes_then _ _ _ _ _ so.goes c.in_ok-side.ensures.paths;
       met = omega (arith, most, met);
       are = around_step (period circuit.header) (side_held circuit ws c.args.watch.held w) (two_of circuit ws c.args.watch.held w) w c.args.begin
           c.args.watch.changes.now c.args.before c.loop-region.all c.with-all.result c.loop-region.region-index _ c.moved_to-moved.result c.in_ok-side.side

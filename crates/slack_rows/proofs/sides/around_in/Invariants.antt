@@ -10,7 +10,7 @@ use Rattle.slack_rows.proofs.sides.around_in.Given as goal
 abbrev pub invariant-loop-region : goal.invariant-loop-region
 invariant-loop-region g l =
     record {
-      goes : GoesOn l.view.circuit.now (waves_of l.view.waves.now) l.fn.paths.nodes l.paths.nodes l.paths.met.entries;
+      goes : GoesOn l.view.circuit.now (waves_of l.view.waves.now) l.fn.paths l.paths;
       met : l.all.met ≤ l.fn.before.met + l.region-index;
       are : AroundTo (period l.view.circuit.now.header)
           (side_held l.view.circuit.now (waves_of l.view.waves.now) l.watch.held (window_in (period l.view.circuit.now.header) l.window))

@@ -2,7 +2,9 @@ use Rattle.std.proofs.Common.{◌≡◌, ℕ, ◌≤◌, Bool, true, false, not,
 use Rattle.std.specs.Prelude.{◌==◌, IfSome}
 use Rattle.std.specs.List.{AllByRecursion}
 use Rattle.scald_base.specs.Time.{period}
-use Rattle.fixpoint_engine.specs.Waves.{waves_of}
+use Rattle.flat_circuit.specs.Circuit.{Circuit}
+use Rattle.fixpoint_engine.specs.Waves.{Waves, waves_of}
+use Rattle.critical_paths.specs.declared.path.Paths.{Paths}
 use Rattle.critical_paths.specs.declared.region.Region.{Region as Ticked}
 use Rattle.critical_paths.specs.declared.region.Slots.{Slots}
 use Rattle.critical_paths.specs.Event.{Events}
@@ -14,8 +16,9 @@ use Rattle.slack_rows.specs.declared.slack.Reason.TheVariants.{Data, Mark, Still
 use Rattle.slack_rows.specs.declared.slack.Slacks.{Slacks}
 use Rattle.slack_rows.specs.Held.{AreChanges, AreSlots, are_none, launches_of, place_in, same_both, two_of, windows_about, without_windows}
 use Rattle.slack_rows.specs.Laws.{IsPlaced}
+use Rattle.slack_rows.specs.Sides.{AreAtSlots, AreLeastAbout}
 use Rattle.slack_rows.specs.Slack.{NoNumber, Nowhere, finding_alone, finding_of}
-use Rattle.slack_rows.specs.Views.{finding_by_found, finding_none}
+use Rattle.slack_rows.specs.Views.{finding_by_found, finding_none, window_about}
 use Rattle.slack_rows.specs.Window.{about, extent_of}
 use Rattle.slack_rows.proofs.Checkers.{all_placed}
 use Rattle.slack_rows.proofs.Parting.{no_first_way, no_last_way, none_parts, parts_always, parts_free, parts_never, parts_unmet, parts_windows, some_parts}
@@ -142,13 +145,24 @@ returns-clause-finding g c =
 
 -- ---- without windows
 
-are : (o : Option Slacks) (found finding : Slacks) → o ≡ Some found → finding ≡ found → IfSome o (λ f. finding ≡ f)
-are None found finding is same = absurd (cc)
-are (Some f) found finding is same = same ∙ sym (let own : f ≡ found = cc in own)
+told : (o : Option Slacks) (found finding : Slacks) → o ≡ Some found → finding ≡ found → IfSome o (λ f. finding ≡ f)
+told None found finding is same = absurd (cc)
+told (Some f) found finding is same = same ∙ sym (let own : f ≡ found = cc in own)
 
 nowhere : (o : Option Slacks) (P : Slacks → Type 0) → o ≡ None → IfSome o P
 nowhere None P none = tt
 nowhere (Some f) P none = absurd (cc)
+
+has_some : (o : Option Slacks) (found : Slacks) → o ≡ None → o ≡ Some found → ⊥
+has_some None found none some = absurd (cc)
+has_some (Some f) found none some = absurd (cc)
+
+at_slots : (c : Circuit) (ws : Waves) (start : Paths) (held : Option Held) (d : Direction) (changes still : Slots) (found finding : Slacks) →
+    without_windows held d changes still ≡ Some found → finding ≡ found → AreAtSlots c ws start held d changes still finding
+at_slots c ws start held d changes still found finding is same = record {
+  without = told (without_windows held d changes still) found finding is same;
+  about = λ none. absurd (has_some (without_windows held d changes still) found none is);
+}
 
 abbrev without : Option Held → Direction → Bool → Bool → Bool → Bool → Option Slacks
 without held d free unmet still all =
@@ -156,28 +170,28 @@ without held d free unmet still all =
     (cond still (Some (record { level = Some (finding_none (cond (is_some held) Mark Still) (place_in held) d); before = None; after = None }))
     (cond all (Some (same_both (Some (finding_none Data (place_in held) d)))) None))
 
-pub returns-then-is_free-clause-without : goal.returns-then-is_free-clause-without
-returns-then-is_free-clause-without g c =
+pub returns-then-is_free-clause-are : goal.returns-then-is_free-clause-are
+returns-then-is_free-clause-are g c =
     let held = c.args.held in
     let d = c.args.direction in
     let changes = c.args.changes.now in
     let still = c.args.still.now in
-    are (without_windows held d changes still) (same_both None) _
+    at_slots c.args.view.now.circuit.now (waves_of c.args.view.now.waves.now) c.args.paths.now held d changes still (same_both None) _
     (ap (λ (b : Bool). without held d b (are_none still) still.are_all changes.are_all) (sym c.are_none-is_free.ensures ∙ c.if-is_free.true)) refl
 
-pub returns-then-is_unmet-clause-without : goal.returns-then-is_unmet-clause-without
-returns-then-is_unmet-clause-without g c =
+pub returns-then-is_unmet-clause-are : goal.returns-then-is_unmet-clause-are
+returns-then-is_unmet-clause-are g c =
     let held = c.args.held in
     let d = c.args.direction in
     let changes = c.args.changes.now in
     let still = c.args.still.now in
     let free : are_none changes ≡ false = sym c.are_none-is_free.ensures ∙ c.if-is_free.false in
     let unmet : are_none still ≡ true = sym c.are_none-is_unmet.ensures ∙ c.if-is_unmet.true in
-    are (without_windows held d changes still) (same_both None) _
+    at_slots c.args.view.now.circuit.now (waves_of c.args.view.now.waves.now) c.args.paths.now held d changes still (same_both None) _
     (λ i. without held d (free i) (unmet i) still.are_all changes.are_all) refl
 
-pub returns-then-still-clause-without : goal.returns-then-still-clause-without
-returns-then-still-clause-without g c =
+pub returns-then-still-clause-are : goal.returns-then-still-clause-are
+returns-then-still-clause-are g c =
     let held = c.args.held in
     let d = c.args.direction in
     let changes = c.args.changes.now in
@@ -185,14 +199,14 @@ returns-then-still-clause-without g c =
     let free : are_none changes ≡ false = sym c.are_none-is_free.ensures ∙ c.if-is_free.false in
     let unmet : are_none still ≡ false = sym c.are_none-is_unmet.ensures ∙ c.if-is_unmet.false in
     let all : still.are_all ≡ true = c.if-still.true in
-    are (without_windows held d changes still)
+    at_slots c.args.view.now.circuit.now (waves_of c.args.view.now.waves.now) c.args.paths.now held d changes still
     (record { level = Some (finding_none (cond (is_some held) Mark Still) (place_in held) d); before = None; after = None }) _
     (λ i. without held d (free i) (unmet i) (all i) changes.are_all)
     (c.level.ensures
     ∙ (λ i. record { level = Some (finding_none (c.never_still.ensures.is i) (c.place_of.ensures i) d); before = None; after = None }))
 
-pub returns-then-changes-clause-without : goal.returns-then-changes-clause-without
-returns-then-changes-clause-without g c =
+pub returns-then-changes-clause-are : goal.returns-then-changes-clause-are
+returns-then-changes-clause-are g c =
     let held = c.args.held in
     let d = c.args.direction in
     let changes = c.args.changes.now in
@@ -201,12 +215,17 @@ returns-then-changes-clause-without g c =
     let unmet : are_none still ≡ false = sym c.are_none-is_unmet.ensures ∙ c.if-is_unmet.false in
     let some : still.are_all ≡ false = c.if-still.false in
     let all : changes.are_all ≡ true = c.if-changes.true in
-    are (without_windows held d changes still) (same_both (Some (finding_none Data (place_in held) d))) _
+    at_slots c.args.view.now.circuit.now (waves_of c.args.view.now.waves.now) c.args.paths.now held d changes still
+    (same_both (Some (finding_none Data (place_in held) d))) _
     (λ i. without held d (free i) (unmet i) (some i) (all i))
     (c.none.ensures ∙ (λ i. same_both (Some (finding_none Data (c.place_of-then-changes.ensures i) d))))
 
-pub returns-clause-without : goal.returns-clause-without
-returns-clause-without g c =
+-- ---- windows
+
+pub returns-clause-are : goal.returns-clause-are
+returns-clause-are g c =
+    let circuit = c.args.view.now.circuit.now in
+    let ws = waves_of c.args.view.now.waves.now in
     let held = c.args.held in
     let d = c.args.direction in
     let changes = c.args.changes.now in
@@ -215,5 +234,13 @@ returns-clause-without g c =
     let unmet : are_none still ≡ false = sym c.are_none-is_unmet.ensures ∙ c.if-is_unmet.false in
     let some : still.are_all ≡ false = c.if-still.false in
     let moves : changes.are_all ≡ false = c.if-changes.false in
-    nowhere (without_windows held d changes still) (λ found. c.in_ok-found.found ≡ found)
-    (λ i. without held d (free i) (unmet i) (some i) (moves i))
+    record {
+      without = nowhere (without_windows held d changes still) (λ found. c.in_ok-found.found ≡ found)
+          (λ i. without held d (free i) (unmet i) (some i) (moves i));
+      about = λ none.
+          subst (λ (edges : List Ticked). AreLeastAbout circuit ws c.args.paths.now held d changes.regions
+          (map (λ e. window_about e (extent_of 1 0)) edges) c.in_ok-found.found) c.as_slice-edges.ensures
+          (subst (λ (moving : List Ticked). AreLeastAbout circuit ws c.args.paths.now held d moving
+          (map (λ e. window_about e (extent_of 1 0)) c.as_slice-edges.result.now) c.in_ok-found.found) c.as_slice-moving.ensures
+          c.in_ok-found.ensures.are);
+    }

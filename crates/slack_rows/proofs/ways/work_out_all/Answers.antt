@@ -4,13 +4,15 @@ use Rattle.std.proofs.lemmas.Option.{slice_get_within}
 use Rattle.fixpoint_engine.specs.Waves.{waves_of}
 use Rattle.slack_rows.specs.declared.guard.Guard.{Guard}
 use Rattle.slack_rows.specs.Arrived.{AreWorkedOut, place_on}
-use Rattle.slack_rows.proofs.Pathing.{goes_none, goes_then, stays_worked}
+use Rattle.slack_rows.proofs.Launching.{goes_none, goes_then}
+use Rattle.slack_rows.proofs.Pathing.{stays_worked}
 use Rattle.slack_rows.proofs.ways.work_out_all.Goals as goal
 
 pub loop-number-init : goal.loop-number-init
 loop-number-init g c = record {
-  goes = goes_none c.args.view.now.circuit.now (waves_of c.args.view.now.waves.now) c.args.paths.now.nodes c.args.paths.now.met.entries c.requires.knows;
+  goes = goes_none c.args.view.now.circuit.now (waves_of c.args.view.now.waves.now) c.args.paths.now c.requires.knows;
   known = λ k e below at. absurd (omega (arith, below));
+  stays = λ q is. is;
 }
 
 pub loop-number-preserved : goal.loop-number-preserved
@@ -20,8 +22,7 @@ loop-number-preserved g c =
     let pin = c.args.held.pin in
     let edges = c.args.edges.now in
     record {
-      goes = goes_then c.args.view.now.circuit.now (waves_of c.args.view.now.waves.now) c.args.paths.now.nodes c.loop-number.paths.nodes _ c.loop-number.paths.met.entries _
-          so.goes c.in_ok-work_out.ensures.paths;
+      goes = goes_then c.args.view.now.circuit.now (waves_of c.args.view.now.waves.now) c.args.paths.now c.loop-number.paths _ so.goes c.in_ok-work_out.ensures.paths;
       known = λ k e below.
           below_more (λ (n : ℕ). (e : Guard) → slice_get edges n ≡ Some e → AreWorkedOut c.work_out.new.paths.known.entries (place_on e.net corner pin.target))
           c.loop-number.number
@@ -29,6 +30,7 @@ loop-number-preserved g c =
           (λ e at. subst (λ (x : Guard). AreWorkedOut c.work_out.new.paths.known.entries (place_on x.net corner pin.target))
           (let is : c.guard_at-edge.result ≡ e = let found = c.guard_at-edge.ensures in cc in is)
           c.in_ok-work_out.ensures.known) k below e;
+      stays = λ q is. c.in_ok-work_out.ensures.stays q (so.stays q is);
     }
 
 pub returns-clause-known : goal.returns-clause-known

@@ -11,10 +11,10 @@ use Rattle.fixpoint_engine.specs.Waves.{pin_wave, waves_of}
 use Rattle.fixpoint_engine.proofs.Fits.{long_pin}
 use Rattle.slack_rows.specs.declared.slack.By.TheVariants.{Pulse as ByPulse, Repeated, Swallowed}
 use Rattle.slack_rows.specs.Limit.{begin_of}
-use Rattle.slack_rows.specs.Pulse.{Pulse, changes_again, left_at, may_change_again, narrowest, finding_wave}
+use Rattle.slack_rows.specs.Pulse.{Pulse, begins_at, changes_again, left_at, may_change_again, narrowest, finding_wave}
 use Rattle.slack_rows.specs.Slack.{finding_of}
 use Rattle.slack_rows.specs.Views.{comes_again}
-use Rattle.slack_rows.proofs.Breadths.{finding_near, tells_swallowed, tells_whole, width_left, width_none, width_repeated, width_whole}
+use Rattle.slack_rows.proofs.Breadths.{finding_near, tells_swallowed, tells_whole, width_left, width_none, width_repeated, width_whole, window_here, window_late}
 use Rattle.slack_rows.proofs.width.width.Goals as goal
 
 pub returns-in_default-clause-finding : goal.returns-in_default-clause-finding
@@ -220,3 +220,36 @@ returns-clause-again g c =
     c.is_repeated.ensures ∙ ap (λ xs. may_change_again (read xs) c.in-Some.pulse) cells in
     ap comes_again c.finding-gone.ensures.way ∙ sym c.if-is_repeated.false ∙ again
     ∙ sym (ap (changes_again wave) found)
+
+pub returns-then-is_repeated-clause-window : goal.returns-then-is_repeated-clause-window
+returns-then-is_repeated-clause-window g c =
+    let late = begins_at c.args.view.now.circuit.now (waves_of c.args.view.now.waves.now) c.args.level c.args.pin in
+    let n = c.in-Some.pulse.0 in
+    let made = c.finding-repeated.ensures in
+    window_here c.args.limit late n c.finding-repeated.result c.ticks-window.result Repeated
+    (let first = c.ticks-window.ensures.first in omega (arith, ints, first, c.from.ensures)) made.slack made.window made.tick made.way refl
+
+pub returns-then-not-may_vanish-clause-window : goal.returns-then-not-may_vanish-clause-window
+returns-then-not-may_vanish-clause-window g c =
+    let late = begins_at c.args.view.now.circuit.now (waves_of c.args.view.now.waves.now) c.args.level c.args.pin in
+    let n = c.in-Some.pulse.0 in
+    let made = c.finding-wide.ensures in
+    window_here c.args.limit late n c.finding-wide.result c.ticks-window.result ByPulse
+    (let first = c.ticks-window.ensures.first in omega (arith, ints, first, c.from.ensures)) made.slack made.window made.tick made.way refl
+
+pub returns-in-None-clause-window : goal.returns-in-None-clause-window
+returns-in-None-clause-window g c =
+    let late = begins_at c.args.view.now.circuit.now (waves_of c.args.view.now.waves.now) c.args.level c.args.pin in
+    let n = c.in-Some.pulse.0 in
+    let made = c.finding-kept.ensures in
+    window_here c.args.limit late n c.finding-kept.result c.ticks-window.result ByPulse
+    (let first = c.ticks-window.ensures.first in omega (arith, ints, first, c.from.ensures)) made.slack made.window made.tick made.way refl
+
+pub returns-clause-window : goal.returns-clause-window
+returns-clause-window g c =
+    let late = begins_at c.args.view.now.circuit.now (waves_of c.args.view.now.waves.now) c.args.level c.args.pin in
+    let made = c.finding-gone.ensures in
+    let begin = c.in-Some-2.begin in
+    let is : option_map (λ left. left.0) c.in_ok-swallowed.field-0 ≡ Some begin = search rules in
+    window_late c.args.limit late c.in-Some.pulse.0 begin c.finding-gone.result c.ticks-rest.result
+    (sym c.in_ok-swallowed.ensures.begin ∙ is) (let first = c.ticks-rest.ensures.first in omega (arith, ints, first)) made.slack made.window made.way

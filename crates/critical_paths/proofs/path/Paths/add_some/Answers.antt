@@ -15,6 +15,7 @@ loop-number-init g c =
       from = omega arith;
       to = c.requires.ordered;
       is = ap (fold step (gathered c.args.out.now)) (sym (taken_none (times c.args.self.now.arrivals) c.args.numbers.0));
+      ways = λ b is have old. old;
     }
 
 pub loop-number-preserved : goal.loop-number-preserved
@@ -29,10 +30,33 @@ loop-number-preserved g c =
     record {
       from = omega (arith, from);
       to = omega (arith, below);
-      is = c.in_ok-add_one.ensures c.if-not-branch.false at.0 at.1
+      is = c.in_ok-add_one.ensures.gathered c.if-not-branch.false at.0 at.1
           ∙ ap (λ (l : List (ℤ × ℤ)). step l (at.0.ideal, at.0.tick)) so.is
           ∙ sym (taken_more step (gathered c.args.out.now) (times all) c.args.numbers.0 c.loop-number.number
           (at.0.ideal, at.0.tick) from
           (slice_get-map (λ (a : Near). (a.ideal, a.tick)) all c.loop-number.number
           ∙ ap (option_map (λ (a : Near). (a.ideal, a.tick))) at.1));
+      ways = λ b is have old. c.in_ok-add_one.ensures.ways b at.0 is at.1
+          (have c.loop-number.number at.0 from below at.1) (so.ways b is have old);
     }
+
+pub returns-then-not-branch-clause-fits : goal.returns-then-not-branch-clause-fits
+returns-then-not-branch-clause-fits g c = λ b few have.
+    let below = c.loop-number-test.true in
+    let most = c.requires.numbers in
+    let at = some_at c.args.self.now.arrivals c.loop-number.number (omega (arith, below, most)) in
+    sym c.if-not-branch.true
+    ∙ c.in_ok-add_one.ensures.fits b at.0 few at.1
+    (have c.loop-number.number at.0 c.loop-number.invariant.from below at.1)
+
+pub returns-then-not-branch-clause-ways : goal.returns-then-not-branch-clause-ways
+returns-then-not-branch-clause-ways g c = λ b is have old.
+    let below = c.loop-number-test.true in
+    let most = c.requires.numbers in
+    let at = some_at c.args.self.now.arrivals c.loop-number.number (omega (arith, below, most)) in
+    c.in_ok-add_one.ensures.ways b at.0 is at.1
+    (have c.loop-number.number at.0 c.loop-number.invariant.from below at.1)
+    (c.loop-number.invariant.ways b is have old)
+
+pub returns-clause-ways : goal.returns-clause-ways
+returns-clause-ways g c = c.loop-number.invariant.ways

@@ -1,6 +1,7 @@
-use Rattle.std.proofs.Common.{◌≡◌, ◌++◌, take}
+use Rattle.std.proofs.Common.{◌≡◌, ◌++◌, length, take}
 use Rattle.critical_paths.specs.Known.{Grows}
-use Rattle.critical_paths.specs.Reached.{gathered, times}
+use Rattle.critical_paths.specs.Reached.{Extends, gathered, times}
+use Rattle.critical_paths.proofs.Exact.{StandUpTo}
 use Rattle.critical_paths.proofs.path.Paths.append_all.Given as goal
 
 abbrev pub invariant-loop-number : goal.invariant-loop-number
@@ -9,4 +10,6 @@ invariant-loop-number l = record {
   met : l.self.met.entries ≡ l.fn.self.met.entries;
   known : l.self.known.entries ≡ l.fn.self.known.entries;
   arrivals : times l.self.arrivals ≡ times l.fn.self.arrivals ++ gathered (take l.number l.found);
+  more : Extends l.fn.self.arrivals l.self.arrivals;
+  stand : StandUpTo l.self (length l.fn.self.arrivals) l.number l.found;
 }

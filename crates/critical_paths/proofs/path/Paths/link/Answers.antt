@@ -1,4 +1,4 @@
-use Rattle.std.proofs.Common.{◌≡◌, ℕ, ◌+◌, ◌-◌, ◌<◌, append-nil, sym, subst, arith, Some}
+use Rattle.std.proofs.Common.{◌≡◌, ℕ, ◌+◌, ◌-◌, ◌<◌, append-nil, ap, refl, sym, ◌∙◌, subst, arith, Some}
 use Rattle.scald_base.specs.Time.{period}
 use Rattle.fixpoint_engine.specs.Waves.{waves_of}
 use Rattle.critical_paths.specs.declared.event.Stop.{Stop}
@@ -21,6 +21,8 @@ loop-back-init g c =
           c.args.self.now.met.entries c.args.chain.now.entries c.args.stop (c.args.last, k)) same
           c.requires.begun;
       grows = record { more = _; is = sym (append-nil c.args.self.now.nodes) };
+      known = refl;
+      arrivals = refl;
     }
 
 pub add-requires-clause-new : goal.add-requires-clause-new
@@ -96,6 +98,10 @@ loop-back-preserved g c =
             grows = grows_then c.args.self.now.nodes nodes c.match-get_index.self.nodes
                 c.loop-back.invariant.grows
                 (subst (λ (s : Paths). Grows nodes s.nodes) (sym w.self-is) next.1);
+            known = ap (λ (s : Paths). s.known.entries) w.self-is ∙ w.in_ok-number.ensures.known
+                ∙ c.loop-back.invariant.known;
+            arrivals = ap (λ (s : Paths). s.arrivals) w.self-is ∙ w.in_ok-number.ensures.arrivals
+                ∙ c.loop-back.invariant.arrivals;
           }
       | in_default w ↦
           let within = begun.within in
@@ -107,6 +113,12 @@ returns-clause-knows g c = c.loop-back.invariant.begun.knows
 
 pub returns-clause-grows : goal.returns-clause-grows
 returns-clause-grows g c = c.loop-back.invariant.grows
+
+pub returns-clause-known : goal.returns-clause-known
+returns-clause-known g c = c.loop-back.invariant.known
+
+pub returns-clause-arrivals : goal.returns-clause-arrivals
+returns-clause-arrivals g c = c.loop-back.invariant.arrivals
 
 pub returns-clause-path : goal.returns-clause-path
 returns-clause-path g c =

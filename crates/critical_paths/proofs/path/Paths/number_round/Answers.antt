@@ -34,6 +34,10 @@ loop-place-preserved c =
                 (sym met)
                 (numbered_more old chain first base place now e c.loop-place.invariant.met
                 (omega arith) (sym w.in-Some.ensures.entry));
+            known = ap (λ (s : Paths). s.known.entries) w.self-is ∙ w.give_number.ensures.known
+                ∙ c.loop-place.invariant.known;
+            arrivals = ap (λ (s : Paths). s.arrivals) w.self-is ∙ w.give_number.ensures.arrivals
+                ∙ c.loop-place.invariant.arrivals;
           }
       | in_default w ↦ let f = w.in_default.ensures.found.1 (omega arith) in absurd (cc)
     ]

@@ -8,4 +8,6 @@ invariant-loop-place l =
       nodes : l.self.nodes ≡ l.fn.self.nodes;
       met : IsNumbered l.fn.self.met.entries l.chain.entries l.first l.base l.place
           l.self.met.entries;
+      known : l.self.known.entries ≡ l.fn.self.known.entries;
+      arrivals : l.self.arrivals ≡ l.fn.self.arrivals;
     }

@@ -28,6 +28,10 @@ loop-place-preserved c =
                 (sym w.self-is) next;
             met = ap (λ (s : Paths). s.met) w.self-is ∙ w.push.ensures.met
                 ∙ c.loop-place.invariant.met;
+            known = ap (λ (s : Paths). s.known.entries) w.self-is ∙ w.push.ensures.known
+                ∙ c.loop-place.invariant.known;
+            arrivals = ap (λ (s : Paths). s.arrivals) w.self-is ∙ w.push.ensures.arrivals
+                ∙ c.loop-place.invariant.arrivals;
           }
       | in_default w ↦ let f = w.in_default.ensures.found.1 (omega arith) in absurd (cc)
     ]

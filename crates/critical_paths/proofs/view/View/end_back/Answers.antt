@@ -4,6 +4,7 @@ use Rattle.scald_base.specs.Time.{Bounds, period}
 use Rattle.fixpoint_engine.specs.Waves.{waves_of}
 use Rattle.critical_paths.specs.Tick.{slot_of}
 use Rattle.critical_paths.specs.Unfolded.{end_delay, open_before, read_by}
+use Rattle.critical_paths.specs.Views.{end_asked}
 use Rattle.critical_paths.proofs.view.View.end_back.Goals as goal
 
 pub returns : goal.returns
@@ -16,7 +17,7 @@ returns g c =
     let q = slot_of p asked.tick in
     c.own_back-back.ensures
     ∙ ap (option_and_then (open_before circuit j q)) c.in_ok-found.ensures
-    ∙ ap (λ (b : Bounds). read_by circuit ws j asked.corner asked.direction q j.split b
+    ∙ ap (λ (b : Bounds). read_by circuit ws j (end_asked p asked b)
     (Some c.in-Some.place)) c.end_delay-delay.ensures
-    ∙ ap (read_by circuit ws j asked.corner asked.direction q j.split
-    (end_delay j.delay asked.direction j.split)) c.in-Some.ensures.is
+    ∙ ap (read_by circuit ws j (end_asked p asked (end_delay j.delay asked.direction j.split)))
+    c.in-Some.ensures.is

@@ -6,6 +6,8 @@ use Rattle.slack_rows.specs.declared.parameter.Parameter.{Parameter}
 use Rattle.slack_rows.specs.declared.rows.Least.{Least}
 use Rattle.slack_rows.specs.Known.{AreKnown}
 use Rattle.slack_rows.specs.Limit.{Case}
+use Rattle.critical_paths.proofs.Exact.{knows_nothing}
+use Rattle.slack_rows.proofs.Exactly.{exact_begin, exact_end, exact_more, lowered_is}
 use Rattle.slack_rows.proofs.Keeping.{tells_now}
 use Rattle.slack_rows.proofs.Levels.{read_at}
 use Rattle.slack_rows.proofs.Sided.{alike_begin, alike_end, alike_more, lowered_breaks, lowered_free}
@@ -20,7 +22,11 @@ loop-place-init g c =
       cases = search rules;
       period = search rules;
       knows = search rules;
+      arrives = knows_nothing circuit (waves_of c.args.view.now.waves.now) _ c.next_case.ensures.known;
       slacks = tt;
+      own = tt;
+      exact = λ cases one waves known. exact_begin circuit cases one c.args.self.now.parameters c.args.self.now.least c.args.self.now.cases
+          c.args.self.now.sets.keys known;
       passed = λ cases one waves known. passed_none circuit cases one c.args.self.now.parameters c.args.self.now.least c.args.self.now.cases
           c.args.self.now.sets.keys known;
       alike = λ cases one waves known are. alike_begin circuit cases one c.args.self.now.parameters are c.args.self.now.least c.args.self.now.cases
@@ -55,7 +61,14 @@ loop-place-preserved g c =
       cases = kept.cases;
       period = kept.period;
       knows = c.in_ok-least.ensures.paths.knows;
+      arrives = c.in_ok-least.ensures.paths.keeps (c.in_ok-slacks.ensures.paths.keeps kept.arrives);
       slacks = c.in_ok-slacks.ensures.finding;
+      own = c.in_ok-slacks.ensures.are kept.arrives kept.own;
+      exact = λ cases one waves known.
+          exact_more circuit cases one ws limits least c.set.new.self place _ _ c.in_ok-least.least c.of.result c.in_ok-slacks.slacks waves here now
+          c.set.ensures c.in_ok-slacks.ensures.finding (c.in_ok-slacks.ensures.are kept.arrives kept.own) c.of.ensures
+          (lowered_is c.loop-place.self.sets.keys c.lowered.new.sets.keys _ c.in_ok-least.least c.of.result c.len-case.result c.in_ok-least.ensures.least)
+          (kept.exact cases one waves known);
       passed = λ cases one waves known.
           (let numbers = length-map cases (λ (case : Case). case.number) in
           let count = ap (λ (xs : List ℕ). length xs) known.are_numbers in
@@ -87,5 +100,7 @@ returns-clause-known g c = λ cases one number waves known.
     (c.in_ok-push.ensures.ok ∙ ap (λ (xs : List ℕ). xs ++ c.args.number ∷ []) c.loop-place.invariant.cases
     ∙ ap (λ (n : ℕ). c.args.self.now.cases ++ n ∷ []) (sym number))
     (c.loop-place.invariant.passed cases one waves known)
+    (exact_end circuit cases one limits c.loop-place.self.least c.loop-place.place (omega (arith, long, past))
+    (c.loop-place.invariant.exact cases one waves known))
     (alike_end circuit cases one limits known.are_limits c.loop-place.self.least c.loop-place.place c.loop-place.subject c.loop-place.slacks
     (omega (arith, long, past)) (c.loop-place.invariant.alike cases one waves known known.are_limits)))
