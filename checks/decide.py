@@ -1,6 +1,8 @@
 """Tries `decide` of a program on the drawings of checks/decide and on the examples.
 
-Usage: python3 checks/decide.py PROGRAM TOP [NAME ..]
+Usage: python3 checks/decide.py PROGRAM TOP SEEDS [NAME ..]
+
+Where all faults are refuted, nothing breaks in the runs that so many seeds draw in each case.
 """
 import re
 import subprocess
@@ -8,6 +10,7 @@ import sys
 from pathlib import Path
 
 PROGRAM, TOP = sys.argv[1:3]
+SEEDS = int(sys.argv[3])
 PERIOD = 400
 
 
@@ -59,12 +62,19 @@ EXAMPLES = {
     "skew_hold": ["SHOWN"],
 }
 
+def late(holds, after):
+    """The same of a tick past the last of a run without the word long."""
+    return lambda line: holds(line) and int(line.split()[2]) > after
+
+
 # name, status, the verdict of each of its faults
 ROWS = [
     ("setup", 1, edge(-19, 0, 100)),
     ("false_path", 0, text(r"REFUTED FROM \d+ BY SEL<0>=0, SEL<0>=1")),
     ("common_clock", 0, text(r"REFUTED FROM \d+ BY \d+ NARROWINGS")),
     ("skews", 1, edge(-9, 5)),
+    # all steps come some 6,000 ticks later
+    ("slow", 1, late(edge(-19, 0, 100), 4096)),
     ("width", 1, pulse(50)),
     ("xor_itself", 0, text(r"REFUTED FROM \d+ BY WINDOW")),
     ("select_stable", 0, text(r"REFUTED FROM \d+ BY WINDOW")),
@@ -116,9 +126,7 @@ def judged(name, drawing, number, printed, verdict):
     last = int(verdict.split()[2])
     if ticks != last + 1:
         wrong(name, f"trace={number}: {ticks} ticks, and the break ends at {last}")
-    if ticks > 4096:
-        return
-    status, said = run(["judge", str(printed)], trace.encode() + drawing)
+    status, said = run(["judge", str(printed), "long"], trace.encode() + drawing)
     if status != 1 or not said.startswith("RUN\nINTERFACE\nBREAK "):
         wrong(name, f"trace={number}: judge says {said!r}")
 
@@ -157,7 +165,24 @@ def whole(name, drawing):
         judged(name, drawing, at + 1, tick, verdict)
     if run(["decide", f"trace={len(verdicts) + 1}"], drawing) != (10, ""):
         wrong(name, "a trace past the last fault")
+    if verdicts and status == 0:
+        unbroken(name, drawing, report)
     return status, verdicts, report
+
+
+def unbroken(name, drawing, report):
+    """Nothing breaks in a drawn run, in any case, from the greatest tick on that the report tells."""
+    start = max(int(tick) for tick in re.findall(r"^(?:CASE .* T|REFUTED FROM) (\d+)", report, re.MULTILINE))
+    nets = int(re.search(r"^NETS (\d+)", report, re.MULTILINE)[1])
+    ticks = min(start + 3 * PERIOD, 4_000_000 // nets)
+    for number in re.findall(r"^CASE (\d+)", report, re.MULTILINE):
+        case = [f"case={number}"] if number != "0" else []
+        for seed in range(SEEDS):
+            words = ["run", str(ticks), str(seed)] + case + ["long"]
+            status, trace = run(words, drawing)
+            status, said = run(["judge", str(start), "long"], trace.encode() + drawing)
+            if (status, said) != (0, "RUN\nINTERFACE\nNO BREAK\n"):
+                wrong(name, f"{' '.join(words)}: judge {start} long says {said!r}")
 
 
 def kept(file):
@@ -169,7 +194,7 @@ def kept(file):
 
 
 def main():
-    names = sys.argv[3:]
+    names = sys.argv[4:]
     for name, status, holds in ROWS:
         if names and name not in names:
             continue

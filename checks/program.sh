@@ -176,9 +176,9 @@ forms='usage:
     scald chains <DRAWING                              where each fault comes from
     scald sections <DRAWINGS                           verify of drawings with a line ===== between them, each by itself and joined
     scald decide [effort=N] [trace=I] <DRAWING         each fault shown by a run, or refuted; the run of the I-th as a trace
-    scald run T SEED [case=K] <DRAWING                 a run of T ticks that a seed draws, 1 to 4096, as a trace
+    scald run T SEED [case=K] [long] <DRAWING          a run of T ticks that a seed draws, 1 to 4096, or with long 65535, as a trace
     scald vcd T SEED [case=K] [tick=1ns] <DRAWING      the same run as a value change dump, for a wave viewer
-    scald judge F <TRACE-AND-DRAWING                   whether the trace is a run, and what breaks in it from tick F on
+    scald judge F [long] <TRACE-AND-DRAWING            whether the trace is a run, and what breaks in it from tick F on
     scald draw case=K [rounds=N] <DRAWING              the waves of a case as a picture; K is 0 if no case is listed
     scald import [cells] <NETLIST                      macros of a netlist that yosys wrote as JSON, or of its kinds of cells, to fill in
     scald bench N                                      what is found in a made drawing of N sections, 1 to 200'
@@ -333,15 +333,30 @@ none "unknown command 'Judge': is judge meant?" Judge
 none "'design' cannot come after 'import'" import design
 none "'cells' cannot come after 'cells'" import cells cells
 none "'cpu.json' cannot come after 'import'$input" import cpu.json
+ticks='1 to 4096, or with long last to 65535, without zeros in front'
 for number in '' 0 01 +1 4097 65537 4294967297; do
-    none "'$number' cannot come after 'run': T is 1 to 4096, without zeros in front" run "$number" 0
+    none "'$number' cannot come after 'run': T is $ticks" run "$number" 0
 done
+for number in '' 0 01 65536 4294967297; do
+    none "'$number' cannot come after 'run': T is $ticks" run "$number" 0 long
+done
+none "'4097' cannot come after 'run': T is $ticks" run 4097 0 long case=1
+none "'4097' cannot come after 'vcd': T is 1 to 4096, without zeros in front" vcd 4097 0 long
+none "'long' cannot come after '7'" vcd 6 7 long
+none "'Long' cannot come after '7': is long meant?" run 6 7 Long
+none "'long' cannot come after 'long'" run 6 7 long long
+none "'case=1' cannot come after 'long'" run 6 7 long case=1
+none "'lon' cannot come after 'case=1': is long meant?" run 6 7 case=1 lon
+none "'lang' cannot come after '1': is long meant?" judge 1 lang
+none "'1' cannot come after 'long'" judge 1 long 1
 for number in '' 00 -1 18446744073709551616 340282366920938463463374607431768211456; do
     none "'$number' cannot come after '6': SEED is 0 to 18446744073709551615, without zeros in front" run 6 "$number"
 done
+ticks="0 ${ticks#1 }"
 for number in '' 00 -1 4097 65536; do
-    none "'$number' cannot come after 'judge': F is 0 to 4096, without zeros in front" judge "$number"
+    none "'$number' cannot come after 'judge': F is $ticks" judge "$number"
 done
+none "'65536' cannot come after 'judge': F is $ticks" judge 65536 long
 # three words at most, and two for bench
 none "'faults' cannot come after 'rounds=5'" verify waves rounds=5 faults
 none "'rounds=5' cannot come after 'rounds=5'" verify waves rounds=5 rounds=5
@@ -472,6 +487,25 @@ printf 'RUN\nINTERFACE\nNO BREAK\n' >"$work/want"
 short "$pulse" | cat "$work/trace" - | "$program" judge 0 >"$work/out"
 expect "no break" 0 $?
 
+# long runs: CK rises at tick 1 of every 4
+short "$pulse" | "$program" run 4097 0 long >"$work/trace"
+short "$pulse" | cat "$work/trace" - | "$program" judge 4096 long >"$work/out"
+expect "a run of 4,097 ticks" 0 $?
+short "$pulse" | cat "$work/trace" - | "$program" judge 4096 >"$work/out" 2>"$work/said"
+says "4,097 ticks without long" 9 'scald: line 1 is not a valid line of a trace of the drawing' $?
+short "$pulse" | "$program" run 65535 0 long >"$work/trace"
+short "$pulse" | cat "$work/trace" - | "$program" judge 0 long >"$work/out"
+expect "a run of 65,535 ticks" 0 $?
+printf 'RUN\nINTERFACE\nBREAK c1<0> TICK 60002\n' >"$work/want"
+short 'c1 : MIN_PULSE_CHK {HIGH=2} ("CK .P1-2");' | cat "$work/trace" - | "$program" judge 60000 long >"$work/out"
+expect "a late break" 1 $?
+printf 'RUN\nINTERFACE\nNO BREAK\n' >"$work/want"
+short 'c1 : MIN_PULSE_CHK {HIGH=2} ("CK .P1-2");' | cat "$work/trace" - | "$program" judge 65535 long >"$work/out"
+expect "no break from the last tick on" 0 $?
+sed '1s/65535/65536/; s/^\(CK<0> .*\)/\10/' "$work/trace" >"$work/more"
+short "$pulse" | cat "$work/more" - | "$program" judge 0 long >"$work/out" 2>"$work/said"
+says "65,536 ticks" 9 'scald: line 1 is not a valid line of a trace of the drawing' $?
+
 # the greatest number of bits, and one net bit more
 short 'b : BUF [1:1] ("A"<0:249>) -> ("X"<0:249>);' 'c : BUF [1:1] ("B"<0:249>) -> ("Y"<0:249>);' >"$work/text"
 short 'b : BUF [1:1] ("A"<0:249>) -> ("X"<0:249>);' 'c : BUF [1:1] ("B"<0:249>) -> ("Y"<0:249>);' \
@@ -486,6 +520,8 @@ cat "$work/trace" "$work/text" | "$program" judge 0 >"$work/out"
 expect "its verdict" 0 $?
 "$program" run 4000 1 <"$work/more" >"$work/out" 2>"$work/said"
 says "a trace of more bits" 11 'scald: the run would have more than 4000000 bits' $?
+"$program" run 4001 1 long <"$work/text" >"$work/out" 2>"$work/said"
+says "a long trace of more bits" 11 'scald: the run would have more than 4000000 bits' $?
 "$program" run 6 0 case=2 <"$first" >"$work/out" 2>"$work/said"
 says "no such case" 10 'scald: the drawing has no such case: it has 0' $?
 "$program" judge 0 <"$first" >"$work/out" 2>"$work/said"

@@ -10,6 +10,7 @@ from .expansion import SELECTS
 from .values import FALLS, RISES, Step, permits
 
 MOST_TICKS = 4096
+LONG_TICKS = 65535  # with the word long
 END = b"END TRACE"
 
 
@@ -81,8 +82,8 @@ def read_bits(net, ticks, line):
     return [int(bit) for bit in bits]
 
 
-def read_trace(circuit, lines):
-    """The trace of these lines, the last of which ends it."""
+def read_trace(circuit, lines, most=MOST_TICKS):
+    """The trace of these lines, the last of which ends it, of at most so many ticks."""
     lines = [line.decode("latin-1") for line in lines]
     count = len(circuit.instances) + len(circuit.nets) + 2
 
@@ -93,7 +94,7 @@ def read_trace(circuit, lines):
     ticks = None
     if head is not None and head.startswith("TRACE "):
         word = head[len("TRACE ") :]
-        ticks = int(word) if word.isdigit() and str(int(word)) == word and 1 <= int(word) <= MOST_TICKS else None
+        ticks = int(word) if word.isdigit() and str(int(word)) == word and 1 <= int(word) <= most else None
     if ticks is None:
         raise BadTrace(1)
     delays, wires, bits = [], [], {}
@@ -334,7 +335,7 @@ def split_trace(text):
     return None
 
 
-def judge(text, circuit_of, start):
+def judge(text, circuit_of, start, most=MOST_TICKS):
     """The verdict on a text, with the circuit of the drawing in it; or why that is refused."""
     split = split_trace(text)
     if split is None:
@@ -345,7 +346,7 @@ def judge(text, circuit_of, start):
     except Refused as refused:
         return Verdict(2, f"REFUSED {refused.kind.value} {refused.kind.name} {refused.place.line}:{refused.place.column}\n")
     try:
-        trace = read_trace(circuit, lines)
+        trace = read_trace(circuit, lines, most)
     except BadTrace:
         return Verdict(9, "")
     failure = first_failure(circuit, trace)

@@ -14,7 +14,7 @@ from .__main__ import drawing_of
 from .drawing import Refused
 from .report import circuit_of
 from .runs import (
-    MOST_TICKS,
+    LONG_TICKS,
     assertion_breaks,
     edge_breaks,
     first_failure,
@@ -70,7 +70,7 @@ def check_shown(program, circuit, text, at, case, printed, fault, verdict):
     expect(answer.status == 0, f"trace={at}: status {answer.status}", text)
     lines, rest = split_trace(answer.text.encode())
     expect(rest == b"", f"trace={at}: more than a trace", text)
-    trace = read_trace(circuit, lines)
+    trace = read_trace(circuit, lines, LONG_TICKS)
     expect(first_failure(circuit, trace) is None, f"trace={at}: no run", text)
     expect(first_stray(circuit, trace) is None, f"trace={at}: an input strays", text)
     expect(is_in_case(circuit, trace, case), f"trace={at}: not in case {case}", text)
@@ -80,14 +80,14 @@ def check_shown(program, circuit, text, at, case, printed, fault, verdict):
 
 
 def check_refuted(program, circuit, text, case, fault, start, seeds):
-    most = min(MOST_BITS // max(len(circuit.nets), 1), MOST_TICKS)
+    most = min(MOST_BITS // max(len(circuit.nets), 1), LONG_TICKS)
     ticks = min(start + 3 * circuit.period, most)
     if ticks <= start:
         return
     for seed in range(seeds):
-        words = ["run", ticks, seed, *([f"case={case}"] if case else [])]
+        words = ["run", ticks, seed, *([f"case={case}"] if case else []), "long"]
         lines, _ = split_trace(verdict_of(program, words, text).text.encode())
-        broken = breaks_of(circuit, read_trace(circuit, lines), fault, start)
+        broken = breaks_of(circuit, read_trace(circuit, lines, LONG_TICKS), fault, start)
         expect(not broken, f"{fault}: refuted from {start}, and {' '.join(map(str, words))} breaks it at {broken}", text)
 
 

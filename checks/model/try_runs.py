@@ -3,7 +3,7 @@
 Usage: python3 -B -m model.try_runs PROGRAM COUNT [FIRST], with checks/ as PYTHONPATH. Of each drawing a run is drawn and
 judged from the printed tick of its case on: it is a run in the case, its inputs keep their assertions, and only what the
 report lists in the case may break. Then the trace is spoilt in one place, some times over, and judged again. All verdicts
-are those of the model. One line is printed for each drawing: its number, and what came of it or FAILED and why.
+are those of the model. Every second drawing has the word long. One line is printed for each drawing: its number, and what came of it or FAILED and why.
 """
 import multiprocessing
 import os
@@ -17,7 +17,7 @@ from .drawing import Refused
 from .faults import faults
 from .report import circuit_of
 from .rounds import Unsettled, default_limit, printed_tick, settle_all
-from .runs import MOST_TICKS, Verdict, judge
+from .runs import LONG_TICKS, MOST_TICKS, Verdict, judge
 from .writing import write_drawing
 
 SPOILT = 6
@@ -107,7 +107,7 @@ class OtherDrawing(Exception):
     """What follows the trace is not the drawing: a line `END TRACE` came too early, so lines of the trace are left."""
 
 
-def judged(program, trace, text, circuit, start):
+def judged(program, trace, text, circuit, start, long):
     """The verdict of both on a trace and the text of the circuit's drawing."""
 
     def circuit_of_text(drawing):
@@ -115,9 +115,9 @@ def judged(program, trace, text, circuit, start):
             raise OtherDrawing
         return circuit
 
-    given = verdict_of(program, ["judge", start], trace + text)
+    given = verdict_of(program, ["judge", start, *(["long"] if long else [])], trace + text)
     try:
-        wanted = judge(trace + text, circuit_of_text, start)
+        wanted = judge(trace + text, circuit_of_text, start, LONG_TICKS if long else MOST_TICKS)
     except OtherDrawing:
         # (no line of a trace begins a drawing)
         expect(given.status == 2, f"`judge {start}`: {given} in place of a refusal", trace + text)
@@ -132,33 +132,34 @@ def broken_in(verdict):
     return None if line == "NO BREAK" else line[len("BREAK ") : line.rindex(" TICK ")]
 
 
-def try_circuit(program, circuit, text, random):
+def try_circuit(program, circuit, text, random, long):
     """Draws a run and judges it, and then spoilt traces of it."""
     told = printed(circuit)
     number = random.choice(sorted(told)) if told else 0
     start, faulty = told.get(number, (0, None))
-    most = max(min(MOST_BITS // max(len(circuit.nets), 1), MOST_TICKS), 1)
+    longest = LONG_TICKS if long else MOST_TICKS
+    most = max(min(MOST_BITS // max(len(circuit.nets), 1), longest), 1)
     ticks = random.choice([min(start + random.randrange(3 * circuit.period + 2), most), random.randint(1, min(most, 64))])
     ticks, seed = max(ticks, 1), random.getrandbits(64)
-    words = ["run", ticks, seed, *([f"case={number}"] if number else [])]
+    words = ["run", ticks, seed, *([f"case={number}"] if number else []), *(["long"] if long else [])]
     drawn = verdict_of(program, words, text)
     asked = " ".join(map(str, words))
     expect(drawn.status == 0, f"`{asked}`: status {drawn.status}", text)
     trace = drawn.text.encode()
-    whole = judged(program, trace, text, circuit, min(start, MOST_TICKS))
+    whole = judged(program, trace, text, circuit, min(start, longest), long)
     expect(whole.text.startswith("RUN\nINTERFACE\n"), f"`{asked}`: {whole.text!r}", trace + text)
     levels = circuit.cases[number - 1] if number else {}
     for net, level in levels.items():
         held = f"\n{net} {str(level) * ticks}\n" in drawn.text
         expect(held, f"`{asked}`: {net} does not hold {level}", trace + text)
     broken = broken_in(whole)
-    if faulty is not None and start <= MOST_TICKS:
+    if faulty is not None and start <= longest:
         is_listed = broken is None or broken in faulty
         expect(is_listed, f"`{asked}`: {whole.text!r}, and it has no fault", trace + text)
     verdicts = [whole.status]
     for _ in range(SPOILT):
         spoilt = spoil(trace, random)
-        verdicts.append(judged(program, spoilt, text, circuit, random.choice([0, min(start, MOST_TICKS)])).status)
+        verdicts.append(judged(program, spoilt, text, circuit, random.choice([0, min(start, longest)]), long).status)
     return "judged " + " ".join(map(str, sorted(set(verdicts))))
 
 
@@ -189,7 +190,7 @@ def try_drawing(program, number):
             circuit = circuit_of(drawing)
         except Refused as refused:
             return f"{number} {try_refused(program, refused, text)}"
-        return f"{number} {try_circuit(program, circuit, text, random)}"
+        return f"{number} {try_circuit(program, circuit, text, random, number % 2 == 1)}"
     except Wrong as wrong:
         why, given = wrong.args
         return f"{number} FAILED {why}; {keep(number, given)}"

@@ -19,12 +19,13 @@ const SECTIONS: &[u8] = b"sections";
 #[derive(Clone, Copy)]
 struct Bounds(&'static [u8], u64, u64);
 
-/// What words go on with: with one of these words, if with any; with a number; or with `case=` and
-/// a number.
+/// What words go on with: with one of these words, if with any; with a number; with a tick of this
+/// name and at least so many; or with `case=` and a number.
 #[derive(Clone, Copy)]
 enum Next {
     Word(&'static [&'static [u8]]),
     Number(Bounds),
+    Tick(&'static [u8], u64),
     Case(Bounds),
 }
 
@@ -43,10 +44,16 @@ const CASE: &[u8] = b"case=";
 /// The front of the word for the length of a tick.
 const TICK: &[u8] = b"tick=";
 
+/// The word for more ticks.
+const LONG: &[u8] = b"long";
+
+/// The most ticks, without that word and with it.
+const MOST_TICKS: [u64; 2] = [4096, 65_535];
+
 const SEEDS: Bounds = Bounds(b"SEED", 0, u64::MAX);
 
 /// What a form goes on with, by its command and how many words stand after that.
-const FORMS: [(&[u8], usize, Next); 20] = [
+const FORMS: [(&[u8], usize, Next); 22] = [
     (
         b"verify",
         0,
@@ -59,14 +66,16 @@ const FORMS: [(&[u8], usize, Next); 20] = [
     (b"explain", 1, Next::Word(&[b"rounds=N"])),
     (b"decide", 0, Next::Word(&[b"effort=N", b"trace=I"])),
     (b"decide", 1, Next::Word(&[b"trace=I"])),
-    (b"run", 0, Next::Number(Bounds(b"T", 1, 4096))),
+    (b"run", 0, Next::Tick(b"T", 1)),
     (b"run", 1, Next::Number(SEEDS)),
-    (b"run", 2, Next::Word(&[b"case=K"])),
+    (b"run", 2, Next::Word(&[b"case=K", LONG])),
+    (b"run", 3, Next::Word(&[LONG])),
     (b"vcd", 0, Next::Number(Bounds(b"T", 1, 4096))),
     (b"vcd", 1, Next::Number(SEEDS)),
     (b"vcd", 2, Next::Word(&[b"case=K", b"tick=1ns"])),
     (b"vcd", 3, Next::Word(&[b"tick=1ns"])),
-    (b"judge", 0, Next::Number(Bounds(b"F", 0, 4096))),
+    (b"judge", 0, Next::Tick(b"F", 0)),
+    (b"judge", 1, Next::Word(&[LONG])),
     (b"draw", 0, Next::Case(Bounds(b"K", 0, 256))),
     (b"draw", 1, Next::Word(&[b"rounds=N"])),
     (b"import", 0, Next::Word(&[b"cells"])),
@@ -85,7 +94,7 @@ fn has_front(words: &[Bytes], front: &[u8]) -> bool {
 
 /// Whether one of these words is the last of its form.
 fn is_ended(words: &[Bytes]) -> bool {
-    has_front(words, b"rounds=") || has_front(words, TICK)
+    has_front(words, b"rounds=") || has_front(words, TICK) || has_front(words, LONG)
 }
 
 /// What the words go on with that begin a form.
@@ -113,6 +122,15 @@ fn add_bounds(out: &mut Lines, bounds: Bounds) {
     out.fill(
         b": % is % to %, without zeros in front",
         &[Shown(name), Number(least), Number(most)],
+    );
+}
+
+/// Which ticks there may be.
+fn add_ticks(out: &mut Lines, name: &'static [u8], least: u64) {
+    let [most, longest] = MOST_TICKS;
+    out.fill(
+        b": % is % to %, or with long last to %, without zeros in front",
+        &[Shown(name), Number(least), Number(most), Number(longest)],
     );
 }
 
@@ -161,6 +179,7 @@ pub fn explain_words(alloc: Global, words: &Words, number: u32) -> Lines {
             match next_of(before) {
                 Next::Word(words) => add_meant(&mut out, words, word),
                 Next::Number(bounds) => add_bounds(&mut out, bounds),
+                Next::Tick(name, least) => add_ticks(&mut out, name, least),
                 Next::Case(bounds) if word.starts_with(CASE) => add_bounds(&mut out, bounds),
                 Next::Case(_) => add_meant(&mut out, &[b"case=K"], word),
             }

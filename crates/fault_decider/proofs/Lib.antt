@@ -1,6 +1,6 @@
 pub mod Breaking
 pub mod Numbers
-pub mod Made
+pub mod Judged
 pub mod Telling
 pub mod Seeking
 pub mod Ends

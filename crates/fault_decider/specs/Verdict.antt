@@ -11,21 +11,40 @@ use Rattle.narrowing.specs.declared.part.Part.{Part}
 use Rattle.narrowing.specs.Leaf.{NeverBreaksIn}
 use Rattle.narrowing.specs.Tree.{Refutes, Tree, leaves}
 use Rattle.run_clauses.specs.Refuting.{NeverBreaksFrom}
+use Rattle.trace_tool.specs.declared.extent.Extent.TheVariants.{Long}
+use Rattle.trace_tool.specs.declared.trace.Trace.{Trace}
+use Rattle.trace_tool.specs.Extent.{most_ticks}
 use Rattle.trace_tool.specs.Judged.{run_in}
 use Rattle.trace_tool.specs.Ran.{most_bits}
+use Rattle.trace_tool.specs.Trace.{trace_text}
 use Rattle.fault_decider.specs.declared.showing.Showing.{Showing}
 use Rattle.fault_decider.specs.declared.verdict.Verdict.{Verdict}
 use Rattle.fault_decider.specs.declared.verdict.Verdict.TheVariants.{Shown, Refuted, Window, Open}
 
 -- The trace is a run of the case, whose inputs keep their assertions, and it breaks the constraint
--- at the ticks that are named, all of them from one on. It has as many ticks as that needs, and no
--- more bits than `judge` takes.
-pub record IsShownBy (c : Circuit) (values : List CaseValue) (x : Constraint) (from : ℕ)
+-- at the ticks that are named, all of them from one on. It has as many ticks as that needs.
+pub record ShowsBreak (c : Circuit) (values : List CaseValue) (x : Constraint) (from : ℕ)
     (s : Showing) : Type 0 where
   pub shows : IsShowing c values x from (run_in s.trace)
   pub at : IsBreakAt c (run_in s.trace) x from s.named
   pub ticks : s.trace.ticks ≡ last_of s.named + 1
-  pub few : length c.nets * s.trace.ticks ≤ most_bits
+
+-- the most bytes of a trace: with the 4,194,304 of the longest drawing they are the 16,777,216 that
+-- `judge` reads
+abbrev pub most_trace : ℕ
+most_trace = 12582912
+
+-- `judge` takes the trace, whatever drawing of the circuit stands after it.
+pub record CanBeJudged (c : Circuit) (trace : Trace) : Type 0 where
+  pub ticks : trace.ticks ≤ most_ticks Long
+  pub bits : length c.nets * trace.ticks ≤ most_bits
+  pub bytes : length (trace_text c trace) ≤ most_trace
+
+-- It shows the break, and can be judged.
+pub record IsShownBy (c : Circuit) (values : List CaseValue) (x : Constraint) (from : ℕ)
+    (s : Showing) : Type 0 where
+  pub shows : ShowsBreak c values x from s
+  pub judged : CanBeJudged c s.trace
 
 -- A tree of narrowings with these leaves refutes the constraint from the tick on, which is at least
 -- the printed one; and so no run of the case breaks it from there on.

@@ -70,12 +70,11 @@ pub struct Answer {
     pub is_traced: bool,
 }
 
-/// What is asked of a drawing of so many bytes.
+/// What is asked of a drawing.
 #[derive(Clone, Copy)]
 pub struct Question {
     pub request: Request,
     pub version: u8,
-    pub text: u64,
 }
 
 /// The last line: how many faults there are, and what was said of them.

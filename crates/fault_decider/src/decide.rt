@@ -14,16 +14,12 @@ use flat_circuit::{Case, Circuit};
 use narrowing::{Constraint, instance_of, refute};
 use run_clauses::{Budget, refute_window};
 use run_search::find_run;
-use scald_base::{Bytes, NoMemory};
+use scald_base::NoMemory;
 use std::alloc::Global;
 use std::cmp::{max, min};
-use trace_tool::write_trace;
 
 /// The most bits of a trace.
 const MOST_BITS: u64 = 4_000_000;
-
-/// The most bytes of a trace and its drawing.
-const MOST_BYTES: u64 = 16_777_216;
 
 /// The most ticks of a run here.
 const MOST_TICKS: u64 = 65_535;
@@ -78,13 +74,6 @@ fn tries_for(c: &Circuit, ticks: u16, steps: u64, most: u64) -> u16 {
     }
 }
 
-/// Whether a trace and a drawing of so many bytes are few enough to be judged.
-fn is_short(alloc: Global, c: &Circuit, showing: &Showing, text: u64) -> Result<bool, NoMemory> {
-    let mut bytes = Bytes::new(alloc);
-    write_trace(c, &showing.trace, &mut bytes)?;
-    Ok((bytes.len() as u64).saturating_add(text) <= MOST_BYTES)
-}
-
 /// A run that shows the fault, if one is found in these tries.
 fn show(
     alloc: Global,
@@ -95,20 +84,12 @@ fn show(
     ticks: u16,
     first: u64,
     tries: u16,
-    text: u64,
 ) -> Result<Option<Showing>, NoMemory>
     ensures { IfOk result (λ found. IfSome found (IsShownBy c.now values.now x from)) }
 {
-    let Some(found) = find_run(alloc, c, values, x, from, ticks, first, tries)? else {
-        return Ok(None);
-    };
-    let Some(showing) = shown_by(alloc, c, values, x, from, found)? else {
-        return Ok(None);
-    };
-    if is_short(alloc, c, &showing, text)? {
-        Ok(Some(showing))
-    } else {
-        Ok(None)
+    match find_run(alloc, c, values, x, from, ticks, first, tries)? {
+        None => Ok(None),
+        Some(found) => shown_by(alloc, c, values, x, from, found),
     }
 }
 
@@ -122,7 +103,6 @@ fn show_from(
     first: u64,
     steps: u64,
     most: u64,
-    text: u64,
 ) -> Result<Option<Showing>, NoMemory>
     ensures { IfOk result (λ found. IfSome found (IsShownBy c.now values.now x printed)) }
 {
@@ -133,7 +113,7 @@ fn show_from(
         return Ok(None);
     };
     let tries = tries_for(c, ticks, steps, most);
-    show(alloc, c, values, x, from, ticks, first, tries, text)
+    show(alloc, c, values, x, from, ticks, first, tries)
 }
 
 /// The most facts of which clauses speak, and the steps of a search for a refutation by them, at
@@ -182,9 +162,9 @@ fn refuted_by_window(
 /// The tries that come before a refutation is looked for.
 const FIRST_TRIES: u64 = 48;
 
-/// What is said of a fault of this constraint in a case, whose printed tick is given, in a drawing
-/// of so many bytes: first some tries for a run, then a refutation by narrowings, then one by the
-/// clauses of a window, and last more tries.
+/// What is said of a fault of this constraint in a case, whose printed tick is given: first some
+/// tries for a run, then a refutation by narrowings, then one by the clauses of a window, and last
+/// more tries.
 #[tactic(auto, using(crate::proofs::Refuting::refuted_verdict))]
 pub fn decide(
     alloc: Global,
@@ -193,14 +173,13 @@ pub fn decide(
     x: Constraint,
     printed: u64,
     effort: u32,
-    text: u64,
 ) -> Result<Verdict, NoMemory>
     requires { NetsExist c.now values.now }
     ensures { IfOk result (IsVerdict c.now values.now x printed) }
 {
     let effort = u64::from(effort);
     let steps = RUN_STEPS.saturating_mul(effort);
-    let shown = show_from(alloc, c, values, x, printed, 0, steps, FIRST_TRIES, text)?;
+    let shown = show_from(alloc, c, values, x, printed, 0, steps, FIRST_TRIES)?;
     if let Some(showing) = shown {
         return Ok(Verdict::Shown(showing));
     }
@@ -215,7 +194,7 @@ pub fn decide(
         return Ok(Verdict::Window { from: printed });
     }
     let most = effort.saturating_mul(400);
-    let shown = show_from(alloc, c, values, x, printed, FIRST_TRIES, steps, most, text)?;
+    let shown = show_from(alloc, c, values, x, printed, FIRST_TRIES, steps, most)?;
     match shown {
         Some(showing) => Ok(Verdict::Shown(showing)),
         None => Ok(Verdict::Open),

@@ -3,8 +3,8 @@
 //!
 //! The program calls [`decide_main`], the main call of `program_call` for [`Decider`].
 //! `specs/Verdict` says what is promised of a fault, `specs/Lines` what is written of it, and
-//! `specs/Decided` what is replied to a text. A run is searched for by `run_search`, and made and
-//! judged again here; a refutation is the tree that `narrowing` finds.
+//! `specs/Decided` what is replied to a text. A run is searched for by `run_search`, and
+//! judged here; a refutation is the tree that `narrowing` finds.
 #![tactic(auto)]
 
 // one fault

@@ -1,22 +1,23 @@
-//! A run that shows a fault: made and judged here, whoever found it.
+//! A run that shows a fault: judged here, whoever found it.
 
-ghost use Rattle.std.specs.Prelude.{◌≡◌, ◌+◌, ◌*◌, ◌<◌, ◌≤◌, ℕ, IfOk, IfSome, IsTrue, List, false, length, slice_index_or};
+ghost use Rattle.std.specs.Prelude.{◌≡◌, ◌+◌, ◌<◌, ℕ, IfOk, IfSome, IsTrue, MatchBool, List, false, length, slice_index_or};
 ghost use Rattle.case_analysis.specs.Case.{IsInCase};
-ghost use Rattle.trace_sim.specs.Simulated.{IsSimulated, bit_of, run_of};
-ghost use Rattle.flat_circuit.specs.Run.{Choice as Chosen};
+ghost use Rattle.flat_circuit.specs.Run.{Choice as Chosen, IsRun};
+ghost use Rattle.trace_sim.specs.Choice.{choices_of};
+ghost use Rattle.trace_sim.specs.Simulated.{bit_of, run_of};
+ghost use Rattle.run_search.specs.Found.{run_found};
 ghost use Rattle.narrowing.specs.Named.{last_of};
-ghost use Rattle.trace_tool.specs.Ran.{most_bits};
 ghost use Rattle.fault_decider.specs.Showing.{showing_of};
-ghost use Rattle.fault_decider.specs.Verdict.{IsShownBy};
+ghost use Rattle.fault_decider.specs.Verdict.{CanBeJudged, IsShownBy, ShowsBreak};
 
 use crate::tested::is_break;
 use flat_circuit::{Case, CaseValue, Circuit};
 use narrowing::{Constraint, Named};
 use run_search::Found;
-use scald_base::NoMemory;
+use scald_base::{Bytes, NoMemory};
 use std::alloc::Global;
-use trace_sim::{Choice, Levels, choice_fits, simulate};
-use trace_tool::{Trace, first_stray};
+use trace_sim::{Choice, Levels};
+use trace_tool::{Extent, Trace, first_stray, write_trace};
 
 /// A run as a trace, and the ticks of a break in it.
 #[derive(Drop)]
@@ -63,16 +64,31 @@ fn is_in_case(values: &[CaseValue], ticks: u16, bits: &[Levels]) -> bool
 /// The most bits of a trace.
 const MOST_BITS: u64 = 4_000_000;
 
-/// Whether a run of so many ticks has no more bits than a trace may have.
-fn has_few_bits(c: &Circuit, ticks: u16) -> bool
-    ensures { IsTrue result → length c.now.nets * ticks ≤ most_bits }
+/// The most bytes of a trace: with those of any drawing they are no more than `judge` reads.
+const MOST_BYTES: usize = 12_582_912;
+
+/// Whether `judge` can take a trace, with any drawing before which it stands.
+fn can_be_judged(alloc: Global, c: &Circuit, trace: &Trace) -> Result<bool, NoMemory>
+    ensures { IfOk result (λ can. MatchBool can (CanBeJudged c.now trace.now)
+        (¬ (CanBeJudged c.now trace.now))) }
 {
-    u64::from(c.net_count()) * u64::from(ticks) <= MOST_BITS
+    if Extent::Long.most_ticks() < trace.ticks {
+        return Ok(false);
+    }
+    if MOST_BITS < u64::from(c.net_count()) * u64::from(trace.ticks) {
+        return Ok(false);
+    }
+    let mut bytes = Bytes::new(alloc);
+    write_trace(c, trace, &mut bytes)?;
+    if MOST_BYTES < bytes.len() {
+        return Ok(false);
+    }
+    Ok(true)
 }
 
-/// Whether a run that is made of a choice meets the interface, is in the case, and breaks the
-/// constraint at the ticks that are named, all of them from one on.
-#[tactic(auto, using(crate::proofs::Made::made_traces))]
+/// Whether a run meets the interface, is in the case, and breaks the constraint at the ticks that
+/// are named, all of them from one on.
+#[tactic(auto, using(crate::proofs::Judged::run_traces))]
 fn is_shown(
     alloc: Global,
     c: &Circuit,
@@ -84,11 +100,10 @@ fn is_shown(
     bits: &[Levels],
     named: Named,
 ) -> Result<bool, NoMemory>
-    requires made { IsSimulated c.now choice.now ticks bits.now }
+    requires is_run { IsRun c.now (run_of ticks (choices_of choice.now) bits.now) }
     requires long { ticks ≡ last_of named + 1 }
-    requires few { length c.now.nets * ticks ≤ most_bits }
     ensures { IfOk result (λ is. IsTrue is →
-        IsShownBy c.now values.now x from (showing_of choice.now ticks bits.now named)) }
+        ShowsBreak c.now values.now x from (showing_of choice.now ticks bits.now named)) }
 {
     match first_stray(c, ticks, bits) {
         Some(_) => Ok(false),
@@ -102,9 +117,9 @@ fn is_shown(
     }
 }
 
-/// The run that was found, if it is one of the circuit, its inputs keep their assertions, it is in
-/// the case, has as many ticks as the break needs and no more bits than a trace may have, and breaks
-/// the constraint at the ticks that are named, all of them from one on.
+/// The run that was found, if its inputs keep their assertions, it is in the case, has as many ticks
+/// as the break needs, can be judged, and breaks the constraint at the ticks that are named, all of
+/// them from one on.
 pub fn shown_by(
     alloc: Global,
     c: &Circuit,
@@ -113,20 +128,18 @@ pub fn shown_by(
     from: u16,
     found: Found,
 ) -> Result<Option<Showing>, NoMemory>
+    requires { IsRun c.now (run_found found) }
     ensures { IfOk result (λ showing. IfSome showing (IsShownBy c.now values.now x from)) }
 {
     let Found {
         choice,
         ticks,
+        bits,
         named,
     } = found;
-    if u32::from(ticks) != u32::from(named.last()) + 1
-        || !has_few_bits(c, ticks)
-        || !choice_fits(c, &choice, ticks)
-    {
+    if u32::from(ticks) != u32::from(named.last()) + 1 {
         return Ok(None);
     }
-    let bits = simulate(alloc, c, &choice, ticks)?;
     let values = values.as_slice();
     if !is_shown(
         alloc,
@@ -147,5 +160,9 @@ pub fn shown_by(
         wires: choice.wires,
         bits,
     };
-    Ok(Some(Showing { trace, named }))
+    if can_be_judged(alloc, c, &trace)? {
+        Ok(Some(Showing { trace, named }))
+    } else {
+        Ok(None)
+    }
 }

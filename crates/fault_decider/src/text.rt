@@ -108,11 +108,7 @@ pub fn decide_text(
     match read(alloc, text) {
         Ok((version, subject)) => {
             let limit = default_limit(&subject.circuit);
-            let question = Question {
-                request,
-                version,
-                text: text.len() as u64,
-            };
+            let question = Question { request, version };
             match report(alloc, &subject, limit, question) {
                 Ok(reply) => Ok(reply),
                 Err(end) => ended(alloc, &subject.circuit, end),

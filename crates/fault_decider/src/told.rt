@@ -70,7 +70,7 @@ fn add_fault(
 {
     let x = constraint_of(fault);
     let effort = question.request.effort;
-    let verdict = decide(alloc, c, values, x, tick, effort, question.text)?;
+    let verdict = decide(alloc, c, values, x, tick, effort)?;
     add_told(answer, alloc, c, values, fault, &verdict)
 }
 
@@ -109,7 +109,7 @@ fn seek_trace(
     }
     let x = constraint_of(fault);
     let effort = question.request.effort;
-    let verdict = decide(alloc, c, values, x, tick, effort, question.text)?;
+    let verdict = decide(alloc, c, values, x, tick, effort)?;
     add_trace(answer, c, &verdict)
 }
 

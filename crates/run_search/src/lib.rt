@@ -1,6 +1,7 @@
-//! A search for a run in which one constraint is broken. It promises nothing: what it finds is
-//! made and judged again by the layer above, which calls [`find_run`]. What pins do at a tick
-//! ([`rises`], [`changes`] and others) is exact.
+//! A search for a run in which one constraint is broken. What it finds is a run of the circuit;
+//! that its inputs keep their assertions, that it is in the case and that it breaks the constraint,
+//! is judged by the layer above, which calls [`find_run`]. What pins do at a tick ([`rises`],
+//! [`changes`] and others) is exact.
 //!
 //! Each try makes a whole run of many periods: delays and offsets of clocks are at their ends, the
 //! inputs change as early and as late as their assertions permit, and what decides which is the

@@ -1,5 +1,11 @@
 //! Tries, one after another.
 
+ghost use Rattle.std.specs.Prelude.{◌≡◌, IfOk, IfSome, map, take};
+ghost use Rattle.flat_circuit.specs.Run.{IsRun};
+ghost use Rattle.trace_sim.specs.Choice.{ChoiceFits, choices_of};
+ghost use Rattle.trace_sim.specs.Simulated.{run_of};
+ghost use Rattle.run_search.specs.Found.{run_found};
+
 use crate::attempt::{Length, attempt};
 use crate::corner::clock_nets;
 use crate::finding::find_break;
@@ -10,50 +16,71 @@ use scald_base::NoMemory;
 use std::alloc::Global;
 use trace_sim::{Choice, Levels, Traces, choice_fits, simulate};
 
-/// A run, by what it is made from, with the ticks of a break in it.
+/// A run, with the ticks of a break in it.
 #[derive(Drop)]
 pub struct Found {
+    /// What it is made from: inputs and free bits may go on past its end.
     pub choice: Choice,
     /// How many ticks it has: as many as the break needs.
     pub ticks: u16,
+    pub bits: Traces,
     pub named: Named,
 }
 
 /// The first so many bits.
-fn front_row(alloc: Global, row: &Levels, ticks: u16) -> Result<Levels, NoMemory> {
-    let mut front = Levels::new(alloc);
-    for t in 0..ticks {
-        if let Some(bit) = row.get(t as usize) {
-            front.push(*bit)?;
-        }
+fn front(row: &[bool], ticks: usize) -> &[bool]
+    ensures { result.now ≡ take ticks row.now }
+{
+    if ticks < row.len() {
+        &row[..ticks]
+    } else {
+        row
     }
-    Ok(front)
 }
 
-fn front_rows(alloc: Global, rows: &Traces, ticks: u16) -> Result<Traces, NoMemory> {
+/// The first so many bits of each net.
+fn fronts(alloc: Global, rows: &[Levels], ticks: usize) -> Result<Traces, NoMemory>
+    ensures { IfOk result (λ fronts. fronts ≡ map (take ticks) rows.now) }
+{
     let mut fronts = Traces::new(alloc);
-    for row in rows.as_slice() {
-        fronts.push(front_row(alloc, row, ticks)?)?;
+    for row in rows {
+        fronts.push(Levels::from_slice(alloc, front(row.as_slice(), ticks))?)?;
     }
     Ok(fronts)
 }
 
-/// The choice with its bits cut off after so many ticks.
-fn cut(alloc: Global, choice: Choice, ticks: u16) -> Result<Choice, NoMemory> {
-    let Choice {
-        delays,
-        wires,
-        inputs,
-        free,
-    } = choice;
-    let inputs = front_rows(alloc, &inputs, ticks)?;
-    let free = front_rows(alloc, &free, ticks)?;
-    Ok(Choice {
-        delays,
-        wires,
-        inputs,
-        free,
-    })
+/// A run up to its break.
+#[derive(Drop)]
+struct Cut {
+    ticks: u16,
+    bits: Traces,
+    named: Named,
+}
+
+/// The run of a choice, up to the last tick of a break in it, if one is found.
+fn cut_at_break(
+    alloc: Global,
+    c: &Circuit,
+    x: Constraint,
+    from: u16,
+    choice: &Choice,
+    ticks: u16,
+) -> Result<Option<Cut>, NoMemory>
+    requires { ChoiceFits c.now choice.now ticks }
+    ensures { IfOk result (λ found. IfSome found (λ b.
+        IsRun c.now (run_of b.ticks (choices_of choice.now) b.bits))) }
+{
+    let bits = simulate(alloc, c, choice, ticks)?;
+    let Some(named) = find_break(alloc, c, choice, ticks, bits.as_slice(), x, from)? else {
+        return Ok(None);
+    };
+    let last = named.last();
+    if ticks <= last {
+        return Ok(None);
+    }
+    let ticks = last + 1;
+    let bits = fronts(alloc, bits.as_slice(), ticks as usize)?;
+    Ok(Some(Cut { ticks, bits, named }))
 }
 
 /// What one try finds.
@@ -65,27 +92,27 @@ fn try_once(
     from: u16,
     clock: &NetSet,
     length: Length,
-) -> Result<Option<Found>, NoMemory> {
+) -> Result<Option<Found>, NoMemory>
+    ensures { IfOk result (λ found. IfSome found (λ f. IsRun c.now (run_found f))) }
+{
     let choice = attempt(alloc, c, case, x, clock, length)?;
     if !choice_fits(c, &choice, length.ticks) {
         return Ok(None);
     }
-    let bits = simulate(alloc, c, &choice, length.ticks)?;
-    let named = find_break(alloc, c, &choice, length.ticks, bits.as_slice(), x, from)?;
-    let Some(named) = named else {
-        return Ok(None);
-    };
-    let ticks = named.last().saturating_add(1);
-    let choice = cut(alloc, choice, ticks)?;
-    Ok(Some(Found {
-        choice,
-        ticks,
-        named,
-    }))
+    match cut_at_break(alloc, c, x, from, &choice, length.ticks)? {
+        None => Ok(None),
+        Some(Cut { ticks, bits, named }) => Ok(Some(Found {
+            choice,
+            ticks,
+            bits,
+            named,
+        })),
+    }
 }
 
-/// A run of the case, of at most so many ticks, in which the constraint seems to be broken at
-/// ticks from one on, if one is found in so many tries from a number on.
+/// A run of the circuit, of at most so many ticks, in which the constraint seems to be broken at
+/// ticks from one on, if one is found in so many tries from a number on. It seems to be in the case
+/// and to keep its inputs' assertions, too.
 pub fn find_run(
     alloc: Global,
     c: &Circuit,
@@ -95,7 +122,9 @@ pub fn find_run(
     ticks: u16,
     first: u64,
     tries: u16,
-) -> Result<Option<Found>, NoMemory> {
+) -> Result<Option<Found>, NoMemory>
+    ensures { IfOk result (λ found. IfSome found (λ f. IsRun c.now (run_found f))) }
+{
     let clock = clock_nets(alloc, c, x)?;
     for number in 0..tries {
         let length = Length {

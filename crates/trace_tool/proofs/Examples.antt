@@ -9,7 +9,9 @@ use Rattle.trace_tool.specs.declared.words.Command.{Command}
 use Rattle.trace_tool.specs.declared.words.Command.TheVariants.{Run, Judge}
 use Rattle.trace_tool.specs.declared.asked.Format.TheVariants.{Trace, Dump}
 use Rattle.trace_tool.specs.Outcome.{status_of}
-use Rattle.trace_tool.specs.Words.{asked, command_of, number_in}
+use Rattle.trace_tool.specs.Words.{asked, command_of, extent_of, number_in, trial}
+use Rattle.trace_tool.specs.declared.extent.Extent.{Extent}
+use Rattle.trace_tool.specs.declared.extent.Extent.TheVariants.{Short, Long}
 use Rattle.trace_tool.specs.declared.tick.Count.{Count}
 use Rattle.trace_tool.specs.declared.tick.Count.TheVariants.{One, Ten, Hundred}
 use Rattle.trace_tool.specs.declared.tick.Unit.{Unit}
@@ -49,9 +51,62 @@ forms : commands (
     ∷ (codes "run" ∷ codes "6" ∷ codes "0" ∷ codes "case=2" ∷ [])
     ∷ (codes "judge" ∷ codes "0" ∷ [])
     ∷ (codes "judge" ∷ codes "4096" ∷ []) ∷ [])
-    ≡ Ok (Run (asked Trace 6 0 None)) ∷ Ok (Run (asked Trace 6 0 (Some 2))) ∷ Ok (Judge 0) ∷ Ok (Judge 4096) ∷ []
+    ≡ Ok (Run (asked Trace 6 0 None)) ∷ Ok (Run (asked Trace 6 0 (Some 2))) ∷ Ok (Judge (trial 0 Short)) ∷ Ok (Judge (trial 4096 Short)) ∷ []
 unfolding digits number_in
 forms = refl
+
+-- `long` is the last word
+extents : map extent_of (
+    []
+    ∷ (codes "long" ∷ [])
+    ∷ (codes "Long" ∷ [])
+    ∷ (codes "0" ∷ codes "long" ∷ [])
+    ∷ (codes "long" ∷ codes "0" ∷ []) ∷ [])
+    ≡ Short ∷ Long ∷ Short ∷ Long ∷ Short ∷ []
+extents = refl
+
+long : commands (
+    (codes "run" ∷ codes "4096" ∷ codes "0" ∷ [])
+    ∷ (codes "run" ∷ codes "6" ∷ codes "0" ∷ codes "long" ∷ [])
+    ∷ (codes "run" ∷ codes "4097" ∷ codes "0" ∷ codes "long" ∷ [])
+    ∷ (codes "run" ∷ codes "65535" ∷ codes "0" ∷ codes "case=2" ∷ codes "long" ∷ [])
+    ∷ (codes "judge" ∷ codes "0" ∷ codes "long" ∷ [])
+    ∷ (codes "judge" ∷ codes "65535" ∷ codes "long" ∷ []) ∷ [])
+    ≡ Ok (Run (asked Trace 4096 0 None)) ∷ Ok (Run (asked Trace 6 0 None)) ∷ Ok (Run (asked Trace 4097 0 None)) ∷ Ok (Run (asked Trace 65535 0 (Some 2)))
+    ∷ Ok (Judge (trial 0 Long)) ∷ Ok (Judge (trial 65535 Long)) ∷ []
+unfolding digits number_in
+long = refl
+
+wrong_long : commands (
+    (codes "run" ∷ codes "4097" ∷ codes "0" ∷ [])
+    ∷ (codes "run" ∷ codes "65536" ∷ codes "0" ∷ codes "long" ∷ [])
+    ∷ (codes "run" ∷ codes "6" ∷ codes "long" ∷ [])
+    ∷ (codes "run" ∷ codes "6" ∷ codes "0" ∷ codes "long" ∷ codes "long" ∷ [])
+    ∷ (codes "run" ∷ codes "6" ∷ codes "0" ∷ codes "long" ∷ codes "case=2" ∷ [])
+    ∷ (codes "run" ∷ codes "4097" ∷ codes "0" ∷ codes "long" ∷ codes "case=2" ∷ [])
+    ∷ (codes "run" ∷ codes "6" ∷ codes "0" ∷ codes "case=2" ∷ codes "long" ∷ codes "long" ∷ [])
+    ∷ (codes "run" ∷ codes "6" ∷ codes "0" ∷ codes "LONG" ∷ []) ∷ [])
+    ≡ Err 1 ∷ Err 1 ∷ Err 2 ∷ Err 4 ∷ Err 4 ∷ Err 1 ∷ Err 5 ∷ Err 3 ∷ []
+unfolding digits number_in
+wrong_long = refl
+
+wrong_trials : commands (
+    (codes "judge" ∷ codes "65536" ∷ codes "long" ∷ [])
+    ∷ (codes "judge" ∷ codes "long" ∷ [])
+    ∷ (codes "judge" ∷ codes "0" ∷ codes "long" ∷ codes "long" ∷ [])
+    ∷ (codes "judge" ∷ codes "0" ∷ codes "long" ∷ codes "1" ∷ []) ∷ [])
+    ≡ Err 1 ∷ Err 1 ∷ Err 3 ∷ Err 3 ∷ []
+unfolding digits number_in
+wrong_trials = refl
+
+-- a dump is never long
+long_dumps : commands (
+    (codes "vcd" ∷ codes "6" ∷ codes "7" ∷ codes "long" ∷ [])
+    ∷ (codes "vcd" ∷ codes "4097" ∷ codes "7" ∷ codes "long" ∷ [])
+    ∷ (codes "vcd" ∷ codes "6" ∷ codes "7" ∷ codes "tick=1ns" ∷ codes "long" ∷ []) ∷ [])
+    ≡ Err 3 ∷ Err 1 ∷ Err 4 ∷ []
+unfolding digits number_in
+long_dumps = refl
 
 abbrev of : Count → Unit → TickLength
 of count unit = record { count = count; unit = unit }

@@ -13,29 +13,31 @@ use Rattle.flat_circuit.specs.Circuit.{Circuit, IsCircuit, net_names}
 use Rattle.listing.specs.Text.{bit_text}
 use Rattle.listing.specs.Names.{instance_name, net_text}
 use Rattle.trace_sim.proofs.Places.{has_place}
+use Rattle.trace_tool.specs.declared.extent.Extent.{Extent}
 use Rattle.trace_tool.specs.declared.trace.Trace.{Trace}
 use Rattle.trace_tool.specs.declared.line.Line.{Line}
 use Rattle.trace_tool.specs.declared.line.Line.TheVariants.{Head, Delays, Bits, End}
 use Rattle.trace_tool.specs.Trace.{delay_text, delays_line, digit_text, end_line, head_line, instance_line, line_order, line_text, net_line, pick_at, row_at, trace_lines, wires_at, wires_text}
-use Rattle.trace_tool.specs.Reading.{HasFirst, IsEnded, IsReadAs, IsRight, IsWithin, IsWrongLine, PickIsFit, most_ticks}
+use Rattle.trace_tool.specs.Reading.{HasFirst, IsEnded, IsReadAs, IsRight, IsWithin, IsWrongLine, PickIsFit}
+use Rattle.trace_tool.specs.Extent.{most_ticks}
 use Rattle.trace_tool.specs.Taking.{AreLong, IsRefused, IsTaken}
 use Rattle.trace_tool.proofs.Cutting.{or_right}
 use Rattle.trace_tool.proofs.Lines.{get_behind, line_at_bits, line_at_delays, line_at_end, line_count_is}
 use Rattle.trace_tool.proofs.Distinct.{at_head, at_delays, at_bits, at_end, below_or_not, once, only_head, place_of}
-use Rattle.trace_tool.proofs.Readback.{head_is_one}
+use Rattle.trace_tool.proofs.Readback.{head_is_one, most_small}
 
 -- so many lines are right
-abbrev pub AreRight : Circuit → Trace → List (List ℕ) → ℕ → Type 0
-AreRight c trace lines count = (j : ℕ) → j < count → IsRight c trace (slice_get (line_order c) j) (slice_get lines j)
+abbrev pub AreRight : Extent → Circuit → Trace → List (List ℕ) → ℕ → Type 0
+AreRight e c trace lines count = (j : ℕ) → j < count → IsRight e c trace (slice_get (line_order c) j) (slice_get lines j)
 
 -- ---- one line more
 
-stays : (c : Circuit) (old new : Trace) (of : Line) (line : List ℕ) → IsTaken c old new of line → of ≢ Head → (f : Line) (l : List ℕ) → f ≢ of →
-    IsRight c old (Some f) (Some l) → IsRight c new (Some f) (Some l)
-stays c old new of line taken later Head l other right =
+stays : (e : Extent) (c : Circuit) (old new : Trace) (of : Line) (line : List ℕ) → IsTaken e c old new of line → of ≢ Head → (f : Line) (l : List ℕ) → f ≢ of →
+    IsRight e c old (Some f) (Some l) → IsRight e c new (Some f) (Some l)
+stays e c old new of line taken later Head l other right =
     let t = sym (taken.ticks later) in
-    (subst (λ (n : ℕ). (1 ≤ n) × (n ≤ most_ticks)) t right.0, right.1 ∙ ap head_line t)
-stays c old new of line taken later (Delays k) l other right =
+    (subst (λ (n : ℕ). (1 ≤ n) × (n ≤ most_ticks e)) t right.0, right.1 ∙ ap head_line t)
+stays e c old new of line taken later (Delays k) l other right =
     let i = slice_get c.instances k in
     let p = sym (taken.delays k (λ same. other (sym same))) in
     let w = sym (taken.wires k (λ same. other (sym same))) in (
@@ -43,30 +45,30 @@ stays c old new of line taken later (Delays k) l other right =
           (subst (λ (pick : ℕ × ℕ). PickIsFit c i pick (wires_at old k)) p right.0),
       right.1 ∙ ap (λ (pick : ℕ × ℕ). delays_line i pick (wires_at old k)) p ∙ ap (delays_line i (pick_at new k)) w,
     )
-stays c old new of line taken later (Bits n) l other right =
+stays e c old new of line taken later (Bits n) l other right =
     let row = sym (taken.bits n (λ same. other (sym same))) in
     (ap length (sym row) ∙ right.0 ∙ sym (taken.ticks later), right.1 ∙ ap (net_line c n) row)
-stays c old new of line taken later End l other right = (tt, right.1)
+stays e c old new of line taken later End l other right = (tt, right.1)
 
-stays_at : (c : Circuit) (old new : Trace) (of : Line) (line : List ℕ) → IsTaken c old new of line → of ≢ Head →
-    (o : Option Line) (l : Option (List ℕ)) → o ≢ Some of → IsRight c old o l → IsRight c new o l
-stays_at c old new of line taken later None l other right = right
-stays_at c old new of line taken later (Some f) None other right = right
-stays_at c old new of line taken later (Some f) (Some l) other right =
-    stays c old new of line taken later f l (λ same. other (ap (λ (f : Line). Some f) same)) right
+stays_at : (e : Extent) (c : Circuit) (old new : Trace) (of : Line) (line : List ℕ) → IsTaken e c old new of line → of ≢ Head →
+    (o : Option Line) (l : Option (List ℕ)) → o ≢ Some of → IsRight e c old o l → IsRight e c new o l
+stays_at e c old new of line taken later None l other right = right
+stays_at e c old new of line taken later (Some f) None other right = right
+stays_at e c old new of line taken later (Some f) (Some l) other right =
+    stays e c old new of line taken later f l (λ same. other (ap (λ (f : Line). Some f) same)) right
 
-pub one_right : (c : Circuit) → IsCircuit c → (old new : Trace) (lines : List (List ℕ)) (place : ℕ) (of : Line) (line : List ℕ) →
-    slice_get (line_order c) place ≡ Some of → slice_get lines place ≡ Some line → IsTaken c old new of line →
-    AreRight c old lines place → AreRight c new lines (place + 1)
-one_right c known old new lines place of line has is taken before j below =
-    elim (cases_order j place) as (λ _. IsRight c new (slice_get (line_order c) j) (slice_get lines j)) [
+pub one_right : (e : Extent) (c : Circuit) → IsCircuit c → (old new : Trace) (lines : List (List ℕ)) (place : ℕ) (of : Line) (line : List ℕ) →
+    slice_get (line_order c) place ≡ Some of → slice_get lines place ≡ Some line → IsTaken e c old new of line →
+    AreRight e c old lines place → AreRight e c new lines (place + 1)
+one_right e c known old new lines place of line has is taken before j below =
+    elim (cases_order j place) as (λ _. IsRight e c new (slice_get (line_order c) j) (slice_get lines j)) [
       | inl same ↦
-          subst (λ (j : ℕ). IsRight c new (slice_get (line_order c) j) (slice_get lines j)) (sym same)
-          (subst (λ (o : Option Line). IsRight c new o (slice_get lines place)) (sym has)
-          (subst (IsRight c new (Some of)) (sym is) taken.right))
-      | inr apart ↦ elim apart as (λ _. IsRight c new (slice_get (line_order c) j) (slice_get lines j)) [
+          subst (λ (j : ℕ). IsRight e c new (slice_get (line_order c) j) (slice_get lines j)) (sym same)
+          (subst (λ (o : Option Line). IsRight e c new o (slice_get lines place)) (sym has)
+          (subst (IsRight e c new (Some of)) (sym is) taken.right))
+      | inr apart ↦ elim apart as (λ _. IsRight e c new (slice_get (line_order c) j) (slice_get lines j)) [
         | inl less ↦
-            stays_at c old new of line taken (only_head c known place of (place_of c place of has) (omega (arith, less)))
+            stays_at e c old new of line taken (only_head c known place of (place_of c place of has) (omega (arith, less)))
             (slice_get (line_order c) j) (slice_get lines j)
             (λ same. let one = once c known j place of (place_of c j of same) (place_of c place of has) in absurd (omega (arith, less, one)))
             (before j less)
@@ -76,26 +78,26 @@ one_right c known old new lines place of line has is taken before j below =
 
 -- ---- a wrong line
 
-one_head : (c : Circuit) (t u : Trace) (l : Option (List ℕ)) → IsRight c t (Some Head) l → IsRight c u (Some Head) l → t.ticks ≡ u.ticks
-one_head c t u None first second = absurd first
-one_head c t u (Some l) first second =
-    let few = first.0.1 in let small = second.0.1 in
-    head_is_one t.ticks u.ticks (omega (arith, few)) (omega (arith, small)) (sym first.1 ∙ second.1)
+one_head : (e : Extent) (c : Circuit) (t u : Trace) (l : Option (List ℕ)) → IsRight e c t (Some Head) l → IsRight e c u (Some Head) l → t.ticks ≡ u.ticks
+one_head e c t u None first second = absurd first
+one_head e c t u (Some l) first second =
+    let most = most_small e in let few = first.0.1 in let small = second.0.1 in
+    head_is_one t.ticks u.ticks (omega (arith, few, most)) (omega (arith, small, most)) (sym first.1 ∙ second.1)
 
-pub is_wrong : (c : Circuit) (trace : Trace) (lines : List (List ℕ)) (place : ℕ) (of : Line) (line : List ℕ) →
-    slice_get (line_order c) place ≡ Some of → slice_get lines place ≡ Some line → IsRefused c trace of line →
-    AreRight c trace lines place → IsWrongLine c lines (place + 1)
-is_wrong c trace lines place of line has is refused before = record {
+pub is_wrong : (e : Extent) (c : Circuit) (trace : Trace) (lines : List (List ℕ)) (place : ℕ) (of : Line) (line : List ℕ) →
+    slice_get (line_order c) place ≡ Some of → slice_get lines place ≡ Some line → IsRefused e c trace of line →
+    AreRight e c trace lines place → IsWrongLine e c lines (place + 1)
+is_wrong e c trace lines place of line has is refused before = record {
   some = omega arith;
   inside = let within = slice_get_within lines place line is in omega (arith, within);
   before =
       let same : place ≡ place + 1 - 1 = omega arith in
-      subst (HasFirst c lines) same (record { trace = trace; each = before });
+      subst (HasFirst e c lines) same (record { trace = trace; each = before });
   here = λ first.
       refused first.trace
-      (λ later. one_head c first.trace trace (slice_get lines 0) (first.each 0 (omega arith)) (before 0 (some_before place has later)))
-      (subst (IsRight c first.trace (Some of)) is
-      (subst (λ (o : Option Line). IsRight c first.trace o (slice_get lines place)) has (first.each place (omega arith))));
+      (λ later. one_head e c first.trace trace (slice_get lines 0) (first.each 0 (omega arith)) (before 0 (some_before place has later)))
+      (subst (IsRight e c first.trace (Some of)) is
+      (subst (λ (o : Option Line). IsRight e c first.trace o (slice_get lines place)) has (first.each place (omega arith))));
 }
   where
     some_before : (place : ℕ) → slice_get (line_order c) place ≡ Some of → of ≢ Head → 0 < place
@@ -103,18 +105,18 @@ is_wrong c trace lines place of line has is refused before = record {
     some_before (suc place) has later = omega arith
 
 -- lines past the last
-pub is_too_long : (c : Circuit) (trace : Trace) (lines : List (List ℕ)) (line : List ℕ) →
-    slice_get lines (length (line_order c)) ≡ Some line → AreRight c trace lines (length (line_order c)) → IsWrongLine c lines (length (line_order c) + 1)
-is_too_long c trace lines line is before =
+pub is_too_long : (e : Extent) (c : Circuit) (trace : Trace) (lines : List (List ℕ)) (line : List ℕ) →
+    slice_get lines (length (line_order c)) ≡ Some line → AreRight e c trace lines (length (line_order c)) → IsWrongLine e c lines (length (line_order c) + 1)
+is_too_long e c trace lines line is before =
     let count = length (line_order c) in
     record {
       some = omega arith;
       inside = let within = slice_get_within lines count line is in omega (arith, within);
       before =
           let same : count ≡ count + 1 - 1 = omega arith in
-          subst (HasFirst c lines) same (record { trace = trace; each = before });
+          subst (HasFirst e c lines) same (record { trace = trace; each = before });
       here = λ first.
-          subst (λ (o : Option Line). IsRight c first.trace o (slice_get lines count)) (slice_get_past (line_order c) count (omega arith))
+          subst (λ (o : Option Line). IsRight e c first.trace o (slice_get lines count)) (slice_get_past (line_order c) count (omega arith))
           (first.each count (omega arith));
     }
 
@@ -147,28 +149,28 @@ angle_in c n row =
     any_front (λ b. b == 60) (net_text c n) (codes " " ++ (flat_map digit_text row ++ []))
     (any_behind (λ b. b == 60) name.text (codes "<" ++ (decimal name.bit ++ (codes ">" ++ []))) refl)
 
-not_end : (c : Circuit) (trace : Trace) (of : Line) → of ≢ End → IsRight c trace (Some of) (Some end_line) → ⊥
-not_end c trace Head other right = let first = ap (λ (l : List ℕ). slice_index_or l 0 0) right.1 in omega (arith, first)
-not_end c trace (Delays k) other right = none (slice_get c.instances k) right.0 right.1
+not_end : (e : Extent) (c : Circuit) (trace : Trace) (of : Line) → of ≢ End → IsRight e c trace (Some of) (Some end_line) → ⊥
+not_end e c trace Head other right = let first = ap (λ (l : List ℕ). slice_index_or l 0 0) right.1 in omega (arith, first)
+not_end e c trace (Delays k) other right = none (slice_get c.instances k) right.0 right.1
   where
     none : (i : Option Instance) → PickIsFit c i (pick_at trace k) (wires_at trace k) → end_line ≡ delays_line i (pick_at trace k) (wires_at trace k) → ⊥
     none None fit same = fit
     none (Some i) fit same =
         let has = ap (list_any (λ b. b == 58)) same ∙ colon_in i (pick_at trace k) (wires_at trace k) in cc
-not_end c trace (Bits n) other right = let has = ap (list_any (λ b. b == 60)) right.1 ∙ angle_in c n (row_at trace n) in cc
-not_end c trace End other right = other refl
+not_end e c trace (Bits n) other right = let has = ap (list_any (λ b. b == 60)) right.1 ∙ angle_in c n (row_at trace n) in cc
+not_end e c trace End other right = other refl
 
-pub not_missing : (c : Circuit) (trace : Trace) (lines : List (List ℕ)) (place : ℕ) → IsEnded lines → length lines ≤ place →
-    place < length (line_order c) → AreRight c trace lines place → ⊥
-not_missing c trace lines place ended short below before =
+pub not_missing : (e : Extent) (c : Circuit) (trace : Trace) (lines : List (List ℕ)) (place : ℕ) → IsEnded lines → length lines ≤ place →
+    place < length (line_order c) → AreRight e c trace lines place → ⊥
+not_missing e c trace lines place ended short below before =
     let q = length ended.before in
     let long : length lines ≡ q + 1 = ap length ended.are ∙ length-append ended.before (end_line ∷ []) in
     let last : slice_get lines q ≡ Some end_line =
     ap (λ (ls : List (List ℕ)). slice_get ls q) ended.are ∙ get_behind ended.before (end_line ∷ []) 0 q (omega arith) in
     let has = slice_get-get_or (line_order c) q End (omega (arith, long)) in
-    not_end c trace (get_or (line_order c) q End) (early q has (omega (arith, long)))
-    (subst (IsRight c trace (Some (get_or (line_order c) q End))) last
-    (subst (λ (o : Option Line). IsRight c trace o (slice_get lines q)) has (before q (omega (arith, long)))))
+    not_end e c trace (get_or (line_order c) q End) (early q has (omega (arith, long)))
+    (subst (IsRight e c trace (Some (get_or (line_order c) q End))) last
+    (subst (λ (o : Option Line). IsRight e c trace o (slice_get lines q)) has (before q (omega (arith, long)))))
   where
     early : (q : ℕ) → slice_get (line_order c) q ≡ Some (get_or (line_order c) q End) → q < place → get_or (line_order c) q End ≢ End
     early q has less is =
@@ -192,25 +194,25 @@ same_lists (x ∷ xs) (y ∷ ys) same =
     let rest = same_lists xs ys (λ j. same (suc j)) in
     rw (first, rest) refl
 
-right_text : (c : Circuit) (trace : Trace) (o : Option Line) (l : Option (List ℕ)) → IsRight c trace o l → l ≡ option_map (line_text c trace) o
-right_text c trace None l right = absurd right
-right_text c trace (Some of) None right = absurd right
-right_text c trace (Some of) (Some l) right = ap (λ (l : List ℕ). Some l) right.1
+right_text : (e : Extent) (c : Circuit) (trace : Trace) (o : Option Line) (l : Option (List ℕ)) → IsRight e c trace o l → l ≡ option_map (line_text c trace) o
+right_text e c trace None l right = absurd right
+right_text e c trace (Some of) None right = absurd right
+right_text e c trace (Some of) (Some l) right = ap (λ (l : List ℕ). Some l) right.1
 
-right_within : (c : Circuit) (trace : Trace) (of : Line) (l : Option (List ℕ)) → IsRight c trace (Some of) l → IsWithin c trace of
-right_within c trace of None right = absurd right
-right_within c trace of (Some l) right = right.0
+right_within : (e : Extent) (c : Circuit) (trace : Trace) (of : Line) (l : Option (List ℕ)) → IsRight e c trace (Some of) l → IsWithin e c trace of
+right_within e c trace of None right = absurd right
+right_within e c trace of (Some l) right = right.0
 
-within_at : (c : Circuit) (trace : Trace) (lines : List (List ℕ)) (place : ℕ) (of : Line) → slice_get (line_order c) place ≡ Some of →
-    AreRight c trace lines (length (line_order c)) → IsWithin c trace of
-within_at c trace lines place of has all =
-    right_within c trace of (slice_get lines place)
-    (subst (λ (o : Option Line). IsRight c trace o (slice_get lines place)) has (all place (slice_get_within (line_order c) place of has)))
+within_at : (e : Extent) (c : Circuit) (trace : Trace) (lines : List (List ℕ)) (place : ℕ) (of : Line) → slice_get (line_order c) place ≡ Some of →
+    AreRight e c trace lines (length (line_order c)) → IsWithin e c trace of
+within_at e c trace lines place of has all =
+    right_within e c trace of (slice_get lines place)
+    (subst (λ (o : Option Line). IsRight e c trace o (slice_get lines place)) has (all place (slice_get_within (line_order c) place of has)))
 
-pub is_read : (c : Circuit) → IsCircuit c → (trace : Trace) (lines : List (List ℕ)) → length lines ≤ length (line_order c) →
-    AreLong c trace → AreRight c trace lines (length (line_order c)) → IsReadAs c lines trace
-is_read c known trace lines short long all =
-    let head = within_at c trace lines 0 Head refl all in
+pub is_read : (e : Extent) (c : Circuit) → IsCircuit c → (trace : Trace) (lines : List (List ℕ)) → length lines ≤ length (line_order c) →
+    AreLong c trace → AreRight e c trace lines (length (line_order c)) → IsReadAs e c lines trace
+is_read e c known trace lines short long all =
+    let head = within_at e c trace lines 0 Head refl all in
     record {
       is_trace = record {
         some = head.0;
@@ -219,12 +221,12 @@ is_read c known trace lines short long all =
         wires = long.wires;
         fit = λ k i is.
             subst (λ (o : Option Instance). PickIsFit c o (pick_at trace k) (wires_at trace k)) is
-            (within_at c trace lines (suc k) (Delays k) (line_at_delays c k (suc k) refl (slice_get_within c.instances k i is)) all);
+            (within_at e c trace lines (suc k) (Delays k) (line_at_delays c k (suc k) refl (slice_get_within c.instances k i is)) all);
         bits = record {
           rows = long.bits;
           long = All-from_get_or (λ (row : List Bool). length row ≡ trace.ticks) trace.bits [] (λ n below.
               let at = has_place c known n (let rows = long.bits in omega (arith, below)) in
-              within_at c trace lines (suc (length c.instances + at.place)) (Bits n)
+              within_at e c trace lines (suc (length c.instances + at.place)) (Bits n)
               (line_at_bits c at.place (suc (length c.instances + at.place)) n refl at.is) all);
         };
       };
@@ -233,7 +235,7 @@ is_read c known trace lines short long all =
   where
     by_place : (j : ℕ) → (j < length (line_order c)) ⊎ (length (line_order c) ≤ j) → slice_get lines j ≡ slice_get (trace_lines c trace) j
     by_place j (inl below) =
-        right_text c trace (slice_get (line_order c) j) (slice_get lines j) (all j below)
+        right_text e c trace (slice_get (line_order c) j) (slice_get lines j) (all j below)
         ∙ sym (slice_get-map (line_text c trace) (line_order c) j)
     by_place j (inr past) =
         let count = length-map (line_order c) (line_text c trace) in

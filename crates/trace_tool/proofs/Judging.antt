@@ -8,6 +8,7 @@ use Rattle.flat_circuit.specs.Run.{IsRun, Run}
 use Rattle.fixpoint_engine.specs.Interface.{MeetsInterface}
 use Rattle.listing.specs.Answer.{refusal_line}
 use Rattle.timing_analysis.specs.Drawn.{DrawsCircuit, IsTextRefused}
+use Rattle.trace_tool.specs.declared.asked.Trial.{Trial}
 use Rattle.trace_tool.specs.declared.element.Element.{Element}
 use Rattle.trace_tool.specs.Break.{BreaksFirst, BreaksNever}
 use Rattle.trace_tool.specs.Interface.{StraysFirst}
@@ -22,31 +23,31 @@ use Rattle.trace_tool.proofs.Made.{Gives, Made}
 
 -- ---- replies
 
-pub no_end_reply : (from : ℕ) (text : List ℕ) (o : TraceOutcome) (bytes : List ℕ) → HasNoTrace text → o ≡ BadTrace 0 → bytes ≡ [] → Judged from text o bytes
-no_end_reply from text o bytes none outcome silent =
-    subst (λ (p : TraceOutcome). Judged from text p bytes) (sym outcome) (subst (Judged from text (BadTrace 0)) (sym silent) (judged.no_end none))
+pub no_end_reply : (trial : Trial) (text : List ℕ) (o : TraceOutcome) (bytes : List ℕ) → HasNoTrace text → o ≡ BadTrace 0 → bytes ≡ [] → Judged trial text o bytes
+no_end_reply trial text o bytes none outcome silent =
+    subst (λ (p : TraceOutcome). Judged trial text p bytes) (sym outcome) (subst (Judged trial text (BadTrace 0)) (sym silent) (judged.no_end none))
 
-pub unread_reply : (from : ℕ) (text : List ℕ) (lines : List (List ℕ)) (drawing : List ℕ) (r : Refusal) (made : Made) → HasTrace text lines drawing →
-    IsTextRefused drawing r → IfOk made (λ reply. reply.outcome ≡ Refused r) → IfOk made (λ reply. reply.bytes ≡ refusal_line r) → Gives made (Judged from text)
-unread_reply from text lines drawing r (Ok reply) h is outcome bytes =
-    subst (λ (o : TraceOutcome). Judged from text o reply.bytes) (sym outcome)
-    (subst (Judged from text (Refused r)) (sym bytes) (judged.refused lines drawing r h is))
-unread_reply from text lines drawing r (Err e) h is outcome bytes = tt
+pub unread_reply : (trial : Trial) (text : List ℕ) (lines : List (List ℕ)) (drawing : List ℕ) (r : Refusal) (made : Made) → HasTrace text lines drawing →
+    IsTextRefused drawing r → IfOk made (λ reply. reply.outcome ≡ Refused r) → IfOk made (λ reply. reply.bytes ≡ refusal_line r) → Gives made (Judged trial text)
+unread_reply trial text lines drawing r (Ok reply) h is outcome bytes =
+    subst (λ (o : TraceOutcome). Judged trial text o reply.bytes) (sym outcome)
+    (subst (Judged trial text (Refused r)) (sym bytes) (judged.refused lines drawing r h is))
+unread_reply trial text lines drawing r (Err e) h is outcome bytes = tt
 
-pub on_circuit_reply : (from : ℕ) (text : List ℕ) (lines : List (List ℕ)) (drawing : List ℕ) (c : Circuit) (cases : List (List CaseValue)) (made : Made) →
-    HasTrace text lines drawing → DrawsCircuit drawing c cases → Gives made (JudgedOn c lines from) → Gives made (Judged from text)
-on_circuit_reply from text lines drawing c cases (Ok reply) h draws on = judged.on_circuit lines drawing c cases reply.outcome reply.bytes h draws on
-on_circuit_reply from text lines drawing c cases (Err e) h draws on = tt
+pub on_circuit_reply : (trial : Trial) (text : List ℕ) (lines : List (List ℕ)) (drawing : List ℕ) (c : Circuit) (cases : List (List CaseValue)) (made : Made) →
+    HasTrace text lines drawing → DrawsCircuit drawing c cases → Gives made (JudgedOn c lines trial) → Gives made (Judged trial text)
+on_circuit_reply trial text lines drawing c cases (Ok reply) h draws on = judged.on_circuit lines drawing c cases reply.outcome reply.bytes h draws on
+on_circuit_reply trial text lines drawing c cases (Err e) h draws on = tt
 
-pub wrong_reply : (c : Circuit) (lines : List (List ℕ)) (from i : ℕ) (o : TraceOutcome) (bytes : List ℕ) → IsWrongLine c lines i → o ≡ BadTrace i → bytes ≡ [] →
-    JudgedOn c lines from o bytes
-wrong_reply c lines from i o bytes wrong outcome silent =
-    subst (λ (p : TraceOutcome). JudgedOn c lines from p bytes) (sym outcome) (subst (JudgedOn c lines from (BadTrace i)) (sym silent) (judged.wrong i wrong))
+pub wrong_reply : (c : Circuit) (lines : List (List ℕ)) (trial : Trial) (i : ℕ) (o : TraceOutcome) (bytes : List ℕ) → IsWrongLine trial.extent c lines i → o ≡ BadTrace i → bytes ≡ [] →
+    JudgedOn c lines trial o bytes
+wrong_reply c lines trial i o bytes wrong outcome silent =
+    subst (λ (p : TraceOutcome). JudgedOn c lines trial p bytes) (sym outcome) (subst (JudgedOn c lines trial (BadTrace i)) (sym silent) (judged.wrong i wrong))
 
-pub judged_reply : (c : Circuit) (lines : List (List ℕ)) (from : ℕ) (trace : Trace) (made : Made) → IsReadAs c lines trace →
-    Gives made (Verdict c (run_in trace) from) → Gives made (JudgedOn c lines from)
-judged_reply c lines from trace (Ok reply) read v = judged.judged trace reply.outcome reply.bytes read v
-judged_reply c lines from trace (Err e) read v = tt
+pub judged_reply : (c : Circuit) (lines : List (List ℕ)) (trial : Trial) (trace : Trace) (made : Made) → IsReadAs trial.extent c lines trace →
+    Gives made (Verdict c (run_in trace) trial.from) → Gives made (JudgedOn c lines trial)
+judged_reply c lines trial trace (Ok reply) read v = judged.judged trace reply.outcome reply.bytes read v
+judged_reply c lines trial trace (Err e) read v = tt
 
 pub stray_of : (c : Circuit) (run : Run) (stray : Option ℕ) → MatchOption stray (MeetsInterface c run) (StraysFirst c run) → IsStray c run stray
 stray_of c run None keeps = keeps

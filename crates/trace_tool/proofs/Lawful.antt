@@ -3,6 +3,7 @@ use Rattle.std.proofs.Common.{◌≡◌, ℕ, List, refl, Option, Some, None}
 use Rattle.flat_circuit.specs.declared.case.CaseValue.{CaseValue}
 use Rattle.flat_circuit.specs.Circuit.{Circuit}
 use Rattle.flat_circuit.specs.Run.{Run as AnyRun}
+use Rattle.trace_tool.specs.declared.asked.Trial.{Trial}
 use Rattle.trace_tool.specs.declared.element.Element.{Element}
 use Rattle.program_call.specs.Program.{IsLawful}
 use Rattle.trace_tool.specs.declared.words.Command.{Command}
@@ -44,25 +45,25 @@ verdict_speaks : (c : Circuit) (run : AnyRun) (from : ℕ) (o : TraceOutcome) (b
 verdict_speaks c run from _ _ (judged.no_run t net first) = refl
 verdict_speaks c run from _ _ (judged.of_run stray found is strays breaks) = found_speaks found
 
-judged_on_speaks : (c : Circuit) (lines : List (List ℕ)) (from : ℕ) (o : TraceOutcome) (bytes : List ℕ) → JudgedOn c lines from o bytes → end_of o ≡ None
-judged_on_speaks c lines from _ _ (judged.wrong i is) = refl
-judged_on_speaks c lines from _ _ (judged.judged trace o bytes read v) = verdict_speaks c _ from o bytes v
+judged_on_speaks : (c : Circuit) (lines : List (List ℕ)) (trial : Trial) (o : TraceOutcome) (bytes : List ℕ) → JudgedOn c lines trial o bytes → end_of o ≡ None
+judged_on_speaks c lines trial _ _ (judged.wrong i is) = refl
+judged_on_speaks c lines trial _ _ (judged.judged trace o bytes read v) = verdict_speaks c _ trial.from o bytes v
 
-judged_speaks : (from : ℕ) (text : List ℕ) (o : TraceOutcome) (bytes : List ℕ) → Judged from text o bytes → end_of o ≡ None
-judged_speaks from text _ _ (judged.no_end none) = refl
-judged_speaks from text _ _ (judged.refused lines drawing r h is) = refl
-judged_speaks from text _ _ (judged.on_circuit lines drawing c cases o bytes h draws on) = judged_on_speaks c lines from o bytes on
+judged_speaks : (trial : Trial) (text : List ℕ) (o : TraceOutcome) (bytes : List ℕ) → Judged trial text o bytes → end_of o ≡ None
+judged_speaks trial text _ _ (judged.no_end none) = refl
+judged_speaks trial text _ _ (judged.refused lines drawing r h is) = refl
+judged_speaks trial text _ _ (judged.on_circuit lines drawing c cases o bytes h draws on) = judged_on_speaks c lines trial o bytes on
 
 -- ---- the program
 
 speaks : (command : Command) (text : List ℕ) (o : TraceOutcome) (bytes : List ℕ) → simulator.Replied command text o bytes → end_of o ≡ None
 speaks (Run asked) text o bytes r = ran_speaks asked text o bytes r
-speaks (Judge from) text o bytes r = judged_speaks from text o bytes r
+speaks (Judge trial) text o bytes r = judged_speaks trial text o bytes r
 
 one_reply : (command : Command) (text : List ℕ) (o o' : TraceOutcome) (bytes bytes' : List ℕ) → simulator.Replied command text o bytes →
     simulator.Replied command text o' bytes' → (o ≡ o') × (bytes ≡ bytes')
 one_reply (Run asked) text o o' bytes bytes' r r' = one_ran asked text o o' bytes bytes' r r'
-one_reply (Judge from) text o o' bytes bytes' r r' = one_judged from text o o' bytes bytes' r r'
+one_reply (Judge trial) text o o' bytes bytes' r r' = one_judged trial text o o' bytes bytes' r r'
 
 pub simulator_is_lawful : IsLawful simulator
 simulator_is_lawful = record {

@@ -9,6 +9,7 @@ use Rattle.std.proofs.lemmas.Option.{slice_get-map}
 use Rattle.std.proofs.Math.Seq.{drop-append_seam}
 use Rattle.flat_circuit.specs.declared.instance.Instance.{Instance}
 use Rattle.flat_circuit.specs.Circuit.{Circuit, IsCircuit}
+use Rattle.trace_tool.specs.declared.extent.Extent.{Extent}
 use Rattle.trace_tool.specs.declared.trace.Trace.{Trace}
 use Rattle.trace_tool.specs.declared.line.Line.{Line}
 use Rattle.trace_tool.specs.declared.line.Line.TheVariants.{Head, Delays, Bits, End}
@@ -56,16 +57,16 @@ one_split text lines others drawing more h g =
 
 -- ---- lines that are wrong
 
-fewer : (c : Circuit) (lines : List (List ℕ)) (m n : ℕ) → m ≤ n → HasFirst c lines n → HasFirst c lines m
-fewer c lines m n less h = record { trace = h.trace; each = λ j below. h.each j (omega (arith, below, less)) }
+fewer : (e : Extent) (c : Circuit) (lines : List (List ℕ)) (m n : ℕ) → m ≤ n → HasFirst e c lines n → HasFirst e c lines m
+fewer e c lines m n less h = record { trace = h.trace; each = λ j below. h.each j (omega (arith, below, less)) }
 
-pub one_wrong : (c : Circuit) (lines : List (List ℕ)) (i j : ℕ) → IsWrongLine c lines i → IsWrongLine c lines j → i ≡ j
-one_wrong c lines i j w v = by (cases_order i j)
+pub one_wrong : (e : Extent) (c : Circuit) (lines : List (List ℕ)) (i j : ℕ) → IsWrongLine e c lines i → IsWrongLine e c lines j → i ≡ j
+one_wrong e c lines i j w v = by (cases_order i j)
   where
     by : (i ≡ j) ⊎ ((i < j) ⊎ (j < i)) → i ≡ j
     by (inl same) = same
-    by (inr (inl less)) = absurd (w.here (fewer c lines i (j - 1) (omega (arith, less)) v.before))
-    by (inr (inr more)) = absurd (v.here (fewer c lines j (i - 1) (omega (arith, more)) w.before))
+    by (inr (inl less)) = absurd (w.here (fewer e c lines i (j - 1) (omega (arith, less)) v.before))
+    by (inr (inr more)) = absurd (v.here (fewer e c lines j (i - 1) (omega (arith, more)) w.before))
 
 -- ---- lines that are right
 
@@ -78,27 +79,27 @@ has_item [] k below = absurd (omega arith)
 has_item (x ∷ xs) zero below = record { item = x; is = refl }
 has_item (x ∷ xs) (suc k) below = let h = has_item xs k (omega (arith, below)) in record { item = h.item; is = h.is }
 
-within : (c : Circuit) (trace : Trace) (of : Line) → IsTrace c trace → IsLineOf c of → IsWithin c trace of
-within c trace Head is exists = (is.some, is.few)
-within c trace (Delays k) is exists =
+within : (e : Extent) (c : Circuit) (trace : Trace) (of : Line) → IsTrace e c trace → IsLineOf c of → IsWithin e c trace of
+within e c trace Head is exists = (is.some, is.few)
+within e c trace (Delays k) is exists =
     let i = has_item c.instances k exists in
     subst (λ (o : Option Instance). PickIsFit c o (pick_at trace k) (wires_at trace k)) (sym i.is) (is.fit k i.item i.is)
-within c trace (Bits n) is exists = let rows = is.bits.rows in is.bits.long n [] (omega (arith, exists, rows))
-within c trace End is exists = tt
+within e c trace (Bits n) is exists = let rows = is.bits.rows in is.bits.long n [] (omega (arith, exists, rows))
+within e c trace End is exists = tt
 
-pub read_not_wrong : (c : Circuit) (lines : List (List ℕ)) (trace : Trace) (i : ℕ) → IsCircuit c → IsReadAs c lines trace → IsWrongLine c lines i → ⊥
-read_not_wrong c lines trace i known read w = w.here (record { trace = trace; each = right })
+pub read_not_wrong : (e : Extent) (c : Circuit) (lines : List (List ℕ)) (trace : Trace) (i : ℕ) → IsCircuit c → IsReadAs e c lines trace → IsWrongLine e c lines i → ⊥
+read_not_wrong e c lines trace i known read w = w.here (record { trace = trace; each = right })
   where
     long : length lines ≡ length (line_order c)
     long = ap length read.are ∙ length-map (line_order c) (line_text c trace)
 
-    right : (j : ℕ) → j < i → IsRight c trace (slice_get (line_order c) j) (slice_get lines j)
+    right : (j : ℕ) → j < i → IsRight e c trace (slice_get (line_order c) j) (slice_get lines j)
     right j below =
         let inside = w.inside in
         let of = has_item (line_order c) j (omega (arith, below, inside, long)) in
         let line : slice_get lines j ≡ Some (line_text c trace of.item) =
         ap (λ (ls : List (List ℕ)). slice_get ls j) read.are ∙ slice_get-map (line_text c trace) (line_order c) j ∙ ap (option_map (line_text c trace)) of.is in
-        let stands : IsRight c trace (Some of.item) (Some (line_text c trace of.item)) =
-        (within c trace of.item read.is_trace (line_is_of c known j of.item (place_of c j of.item of.is)), refl) in
-        subst (λ (o : Option Line). IsRight c trace o (slice_get lines j)) (sym of.is)
-        (subst (IsRight c trace (Some of.item)) (sym line) stands)
+        let stands : IsRight e c trace (Some of.item) (Some (line_text c trace of.item)) =
+        (within e c trace of.item read.is_trace (line_is_of c known j of.item (place_of c j of.item of.is)), refl) in
+        subst (λ (o : Option Line). IsRight e c trace o (slice_get lines j)) (sym of.is)
+        (subst (IsRight e c trace (Some of.item)) (sym line) stands)

@@ -5,6 +5,7 @@ use Rattle.std.proofs.lemmas.Option.{same_Some, slice_get-get_or, slice_get-map,
 use Rattle.flat_circuit.specs.declared.instance.Instance.{Instance}
 use Rattle.flat_circuit.specs.Circuit.{Circuit, IsCircuit}
 use Rattle.trace_sim.proofs.Places.{has_place}
+use Rattle.trace_tool.specs.declared.extent.Extent.{Extent}
 use Rattle.trace_tool.specs.declared.trace.Trace.{Trace}
 use Rattle.trace_tool.specs.Trace.{delays_line, instance_line, line_order, line_text, net_line, pick_at, row_at, trace_lines, wires_at}
 use Rattle.trace_tool.specs.Reading.{IsReadAs, IsTrace}
@@ -13,7 +14,7 @@ use Rattle.trace_tool.proofs.Lines.{line_at_bits, line_at_delays}
 use Rattle.trace_tool.proofs.Digits.{digits_are, digits_behind}
 use Rattle.trace_tool.proofs.Distinct.{below_or_not}
 use Rattle.trace_tool.proofs.Fronts.{same_lists}
-use Rattle.trace_tool.proofs.Readback.{SayOne, head_is_one, one_line_says}
+use Rattle.trace_tool.proofs.Readback.{SayOne, head_is_one, most_small, one_line_says}
 
 -- one line says one row
 one_row : (c : Circuit) (n : ℕ) (row other : List Bool) → net_line c n row ≡ net_line c n other → row ≡ other
@@ -38,12 +39,13 @@ same_rows c t u known same n below =
     one_row c n (row_at t n) (row_at u n) (let one : net_line c n (row_at t n) ≡ net_line c n (row_at u n) = cc in one)
 
 pub lines_say_bits : LinesSayBits
-lines_say_bits c lines t u known one two =
+lines_say_bits e c lines t u known one two =
     let same = sym one.are ∙ two.are in
+    let most = most_small e in
     let few = one.is_trace.few in
     let small = two.is_trace.few in
     record {
-      ticks = head_is_one t.ticks u.ticks (omega (arith, few)) (omega (arith, small)) (ap (λ (ls : List (List ℕ)). slice_index_or ls 0 []) same);
+      ticks = head_is_one t.ticks u.ticks (omega (arith, few, most)) (omega (arith, small, most)) (ap (λ (ls : List (List ℕ)). slice_index_or ls 0 []) same);
       bits = same_lists t.bits u.bits (λ n. by_number n (below_or_not n (length c.nets)) same);
     }
   where
@@ -78,9 +80,9 @@ delays_stand c trace k i here =
     ∙ ap (option_map (line_text c trace)) (line_at_delays c k (suc k) refl (slice_get_within c.instances k i here))
     ∙ ap (λ (o : Option Instance). Some (delays_line o (pick_at trace k) (wires_at trace k))) here
 
-one_instance_says : (c : Circuit) (t u : Trace) → IsTrace c t → IsTrace c u → trace_lines c t ≡ trace_lines c u → (k : ℕ) → k < length c.instances →
+one_instance_says : (e : Extent) (c : Circuit) (t u : Trace) → IsTrace e c t → IsTrace e c u → trace_lines c t ≡ trace_lines c u → (k : ℕ) → k < length c.instances →
     SayOne (pick_at t k) (pick_at u k) (wires_at t k) (wires_at u k)
-one_instance_says c t u one two same k below =
+one_instance_says e c t u one two same k below =
     let i = item_at c.instances k below in
     let both = sym (delays_stand c t k i.item i.is) ∙ ap (λ (ls : List (List ℕ)). slice_get ls (suc k)) same ∙ delays_stand c u k i.item i.is in
     one_line_says i.item (pick_at t k) (pick_at u k) (wires_at t k) (wires_at u k) (one.fit k i.item i.is).plain (two.fit k i.item i.is).plain
@@ -95,11 +97,11 @@ same_items xs ys d n k first second each = elim (below_or_not k n) as (λ _. sli
 ]
 
 -- So lines are those of one trace.
-pub lines_say_trace : (c : Circuit) (lines : List (List ℕ)) (t u : Trace) → IsCircuit c → IsReadAs c lines t → IsReadAs c lines u → t ≡ u
-lines_say_trace c lines t u known one two =
-    let alike = lines_say_bits c lines t u known one two in
+pub lines_say_trace : (e : Extent) (c : Circuit) (lines : List (List ℕ)) (t u : Trace) → IsCircuit c → IsReadAs e c lines t → IsReadAs e c lines u → t ≡ u
+lines_say_trace e c lines t u known one two =
+    let alike = lines_say_bits e c lines t u known one two in
     let same = sym one.are ∙ two.are in
-    let says = one_instance_says c t u one.is_trace two.is_trace same in
+    let says = one_instance_says e c t u one.is_trace two.is_trace same in
     let delays = same_lists t.delays u.delays (λ k. same_items t.delays u.delays (0, 0) (length c.instances) k one.is_trace.delays two.is_trace.delays
     (λ below. (says k below).picks)) in
     let wires = same_lists t.wires u.wires (λ k. same_items t.wires u.wires [] (length c.instances) k one.is_trace.wires two.is_trace.wires

@@ -6,14 +6,15 @@ use Rattle.flat_circuit.specs.Circuit.{Circuit}
 use Rattle.trace_sim.specs.declared.choice.Choice.{Choice}
 use Rattle.trace_sim.specs.Choice.{PickFits}
 use Rattle.trace_sim.specs.Failure.{ArePicks}
+use Rattle.trace_tool.specs.declared.extent.Extent.{Extent}
 use Rattle.trace_tool.specs.declared.trace.Trace.{Trace}
 use Rattle.trace_tool.specs.Trace.{pick_at, wires_at}
 use Rattle.trace_tool.specs.Reading.{IsTrace}
 
 -- so a choice of these delays is one whose equations can be tried
-pub trace_picks : (c : Circuit) (trace : Trace) (choice : Choice) → choice.delays ≡ trace.delays →
-    choice.wires ≡ trace.wires → IsTrace c trace → ArePicks c choice
-trace_picks c trace choice delays wires is = record {
+pub trace_picks : (e : Extent) (c : Circuit) (trace : Trace) (choice : Choice) → choice.delays ≡ trace.delays →
+    choice.wires ≡ trace.wires → IsTrace e c trace → ArePicks c choice
+trace_picks e c trace choice delays wires is = record {
   delays = ap length delays ∙ is.delays;
   wires = ap length wires ∙ is.wires;
   fits = λ k i pick row here picked wired.

@@ -20,6 +20,9 @@ use Rattle.flat_circuit.specs.Run.{DelayFitsForm, DelaysFit, WireFits, WiresFit}
 use Rattle.listing.specs.Text.{bit_text}
 use Rattle.listing.specs.Names.{instance_name}
 use Rattle.trace_sim.specs.Choice.{IsOneDelay, IsOneDelayForm, PickFits, chosen}
+use Rattle.trace_tool.specs.declared.extent.Extent.{Extent}
+use Rattle.trace_tool.specs.declared.extent.Extent.TheVariants.{Short, Long}
+use Rattle.trace_tool.specs.Extent.{most_ticks}
 use Rattle.trace_tool.specs.Trace.{delay_by, delay_text, head_line, instance_line, wires_text}
 use Rattle.trace_tool.specs.Reading.{IsPlain}
 use Rattle.trace_tool.specs.Scan.{AreSmall, IsGuess, again, closed, is_digit, numbers_after, numbers_of, picked, picks_by, picks_count, shown, with_digit}
@@ -251,10 +254,15 @@ all_small nets (p ∷ ps) (w ∷ ws) each fit =
 
 -- ---- the head
 
-pub head_found : (line : List ℕ) (first n : ℕ) → first ≡ slice_index_or (numbers_of line) 0 0 → n ≤ 4096 → line ≡ head_line n → first ≡ n
+-- a number that is read is no greater
+pub most_small : (e : Extent) → most_ticks e ≤ 65535
+most_small Short = omega arith
+most_small Long = omega arith
+
+pub head_found : (line : List ℕ) (first n : ℕ) → first ≡ slice_index_or (numbers_of line) 0 0 → n ≤ 65535 → line ≡ head_line n → first ≡ n
 head_found line first n is few same =
     is ∙ ap (λ (l : List ℕ). slice_index_or (numbers_of l) 0 0) same
-    ∙ ap (λ (xs : List ℕ). slice_index_or xs 0 0) (head_read n (omega (arith, few)))
+    ∙ ap (λ (xs : List ℕ). slice_index_or xs 0 0) (head_read n few)
 
 -- ---- what a line does not show
 

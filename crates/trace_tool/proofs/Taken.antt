@@ -5,10 +5,12 @@ use Rattle.std.proofs.lemmas.List.{get_or-set_other, get_or-set_same, length-set
 use Rattle.flat_circuit.specs.declared.instance.Instance.{Instance}
 use Rattle.flat_circuit.specs.Circuit.{Circuit}
 use Rattle.trace_sim.specs.Choice.{PickFits}
+use Rattle.trace_tool.specs.declared.extent.Extent.{Extent}
 use Rattle.trace_tool.specs.declared.trace.Trace.{Trace}
 use Rattle.trace_tool.specs.declared.line.Line.TheVariants.{Head, Delays, Bits, End}
 use Rattle.trace_tool.specs.Trace.{delays_line, end_line, head_line, instance_line, net_line, pick_at, row_at, wires_at}
-use Rattle.trace_tool.specs.Reading.{IsFitPick, PickIsFit, most_ticks}
+use Rattle.trace_tool.specs.Reading.{IsFitPick, PickIsFit}
+use Rattle.trace_tool.specs.Extent.{most_ticks}
 use Rattle.trace_tool.specs.Taking.{AreLong, IsRefused, IsTaken}
 
 -- ---- the head
@@ -16,9 +18,9 @@ use Rattle.trace_tool.specs.Taking.{AreLong, IsRefused, IsTaken}
 abbrev pub with_ticks : Trace → ℕ → Trace
 with_ticks old n = record { ticks = n; delays = old.delays; wires = old.wires; bits = old.bits }
 
-pub head_taken : (c : Circuit) (old : Trace) (line : List ℕ) (n : ℕ) → AreLong c old → 1 ≤ n → n ≤ most_ticks → line ≡ head_line n →
-    IsTaken c old (with_ticks old n) Head line
-head_taken c old line n long some few is = record {
+pub head_taken : (e : Extent) (c : Circuit) (old : Trace) (line : List ℕ) (n : ℕ) → AreLong c old → 1 ≤ n → n ≤ most_ticks e → line ≡ head_line n →
+    IsTaken e c old (with_ticks old n) Head line
+head_taken e c old line n long some few is = record {
   right = ((some, few), is);
   long = record { delays = long.delays; wires = long.wires; bits = long.bits };
   ticks = λ other. absurd (other refl);
@@ -27,8 +29,8 @@ head_taken c old line n long some few is = record {
   bits = λ n other. refl;
 }
 
-pub head_refused : (c : Circuit) (old : Trace) (line : List ℕ) → ((n : ℕ) → 1 ≤ n → n ≤ most_ticks → line ≡ head_line n → ⊥) → IsRefused c old Head line
-head_refused c old line none t same right = none t.ticks right.0.0 right.0.1 right.1
+pub head_refused : (e : Extent) (c : Circuit) (old : Trace) (line : List ℕ) → ((n : ℕ) → 1 ≤ n → n ≤ most_ticks e → line ≡ head_line n → ⊥) → IsRefused e c old Head line
+head_refused e c old line none t same right = none t.ticks right.0.0 right.0.1 right.1
 
 -- ---- delays
 
@@ -39,10 +41,10 @@ with_delays old k pick wires =
 another : (k j : ℕ) → Delays k ≢ Delays j → j ≢ k
 another k j other same = other (ap (λ (n : ℕ). Delays n) (sym same))
 
-pub delays_taken : (c : Circuit) (old : Trace) (line : List ℕ) (k : ℕ) (i : Instance) (pick : ℕ × ℕ) (wires : List ℕ) → AreLong c old →
+pub delays_taken : (e : Extent) (c : Circuit) (old : Trace) (line : List ℕ) (k : ℕ) (i : Instance) (pick : ℕ × ℕ) (wires : List ℕ) → AreLong c old →
     slice_get c.instances k ≡ Some i → k < length c.instances → IsFitPick c i pick wires → line ≡ instance_line i pick wires →
-    IsTaken c old (with_delays old k pick wires) (Delays k) line
-delays_taken c old line k i pick wires long here inside fits is =
+    IsTaken e c old (with_delays old k pick wires) (Delays k) line
+delays_taken e c old line k i pick wires long here inside fits is =
     let first = long.delays in
     let second = long.wires in
     let p : pick ≡ pick_at (with_delays old k pick wires) k = sym (get_or-set_same old.delays k pick (0, 0) (omega (arith, first, inside))) in
@@ -66,9 +68,9 @@ delays_taken c old line k i pick wires long here inside fits is =
       bits = λ n other. refl;
     }
 
-pub delays_refused : (c : Circuit) (old : Trace) (line : List ℕ) (k : ℕ) (i : Instance) → slice_get c.instances k ≡ Some i →
-    ((pick : ℕ × ℕ) (wires : List ℕ) → PickFits c i pick wires → line ≡ instance_line i pick wires → ⊥) → IsRefused c old (Delays k) line
-delays_refused c old line k i here none t same right =
+pub delays_refused : (e : Extent) (c : Circuit) (old : Trace) (line : List ℕ) (k : ℕ) (i : Instance) → slice_get c.instances k ≡ Some i →
+    ((pick : ℕ × ℕ) (wires : List ℕ) → PickFits c i pick wires → line ≡ instance_line i pick wires → ⊥) → IsRefused e c old (Delays k) line
+delays_refused e c old line k i here none t same right =
     none (pick_at t k) (wires_at t k)
     (subst (λ (o : Option Instance). PickIsFit c o (pick_at t k) (wires_at t k)) here right.0).fits
     (right.1 ∙ ap (λ (o : Option Instance). delays_line o (pick_at t k) (wires_at t k)) here)
@@ -78,9 +80,9 @@ delays_refused c old line k i here none t same right =
 abbrev pub with_row : Trace → ℕ → List Bool → Trace
 with_row old n row = record { ticks = old.ticks; delays = old.delays; wires = old.wires; bits = set old.bits n row }
 
-pub bits_taken : (c : Circuit) (old : Trace) (line : List ℕ) (n : ℕ) (row : List Bool) → AreLong c old → n < length c.nets →
-    length row ≡ old.ticks → line ≡ net_line c n row → IsTaken c old (with_row old n row) (Bits n) line
-bits_taken c old line n row long inside each is =
+pub bits_taken : (e : Extent) (c : Circuit) (old : Trace) (line : List ℕ) (n : ℕ) (row : List Bool) → AreLong c old → n < length c.nets →
+    length row ≡ old.ticks → line ≡ net_line c n row → IsTaken e c old (with_row old n row) (Bits n) line
+bits_taken e c old line n row long inside each is =
     let rows = long.bits in
     let r : row ≡ row_at (with_row old n row) n = sym (get_or-set_same old.bits n row [] (omega (arith, rows, inside))) in
     record {
@@ -92,14 +94,14 @@ bits_taken c old line n row long inside each is =
       bits = λ m other. get_or-set_other old.bits n m row [] (λ same. other (ap (λ (k : ℕ). Bits k) (sym same)));
     }
 
-pub bits_refused : (c : Circuit) (old : Trace) (line : List ℕ) (n : ℕ) →
-    ((row : List Bool) → length row ≡ old.ticks → line ≡ net_line c n row → ⊥) → IsRefused c old (Bits n) line
-bits_refused c old line n none t same right = none (row_at t n) (right.0 ∙ same (λ clash. (let no = clash in cc))) right.1
+pub bits_refused : (e : Extent) (c : Circuit) (old : Trace) (line : List ℕ) (n : ℕ) →
+    ((row : List Bool) → length row ≡ old.ticks → line ≡ net_line c n row → ⊥) → IsRefused e c old (Bits n) line
+bits_refused e c old line n none t same right = none (row_at t n) (right.0 ∙ same (λ clash. (let no = clash in cc))) right.1
 
 -- ---- the end
 
-pub end_taken : (c : Circuit) (old : Trace) (line : List ℕ) → AreLong c old → line ≡ end_line → IsTaken c old old End line
-end_taken c old line long is = record {
+pub end_taken : (e : Extent) (c : Circuit) (old : Trace) (line : List ℕ) → AreLong c old → line ≡ end_line → IsTaken e c old old End line
+end_taken e c old line long is = record {
   right = (tt, is);
   long = long;
   ticks = λ other. refl;
@@ -108,5 +110,5 @@ end_taken c old line long is = record {
   bits = λ n other. refl;
 }
 
-pub end_refused : (c : Circuit) (old : Trace) (line : List ℕ) → line ≢ end_line → IsRefused c old End line
-end_refused c old line other t same right = other right.1
+pub end_refused : (e : Extent) (c : Circuit) (old : Trace) (line : List ℕ) → line ≢ end_line → IsRefused e c old End line
+end_refused e c old line other t same right = other right.1

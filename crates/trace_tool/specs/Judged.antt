@@ -14,6 +14,7 @@ use Rattle.timing_analysis.specs.Drawn.{DrawsCircuit, IsTextRefused}
 use Rattle.trace_sim.specs.Choice.{all_chosen}
 use Rattle.trace_sim.specs.Failure.{FailsFirst}
 use Rattle.trace_sim.specs.Simulated.{run_of}
+use Rattle.trace_tool.specs.declared.asked.Trial.{Trial}
 use Rattle.trace_tool.specs.declared.trace.Trace.{Trace}
 use Rattle.trace_tool.specs.Reading.{HasNoTrace, HasTrace, IsReadAs, IsWrongLine}
 use Rattle.trace_tool.specs.declared.element.Element.{Element}
@@ -78,19 +79,19 @@ pub data Verdict (c : Circuit) (run : Run) (from : ℕ) : TraceOutcome → List 
 -- ---- the reply
 
 -- To the lines of a trace, and the circuit of the drawing that follows them.
-pub data JudgedOn (c : Circuit) (lines : List (List ℕ)) (from : ℕ) : TraceOutcome → List ℕ →
+pub data JudgedOn (c : Circuit) (lines : List (List ℕ)) (trial : Trial) : TraceOutcome → List ℕ →
     Type 0 where
-  wrong : (i : ℕ) → IsWrongLine c lines i → JudgedOn c lines from (BadTrace i) []
-  judged : (trace : Trace) (o : TraceOutcome) (bytes : List ℕ) → IsReadAs c lines trace →
-      Verdict c (run_in trace) from o bytes → JudgedOn c lines from o bytes
+  wrong : (i : ℕ) → IsWrongLine trial.extent c lines i → JudgedOn c lines trial (BadTrace i) []
+  judged : (trace : Trace) (o : TraceOutcome) (bytes : List ℕ) → IsReadAs trial.extent c lines trace →
+      Verdict c (run_in trace) trial.from o bytes → JudgedOn c lines trial o bytes
 
 -- To a text: that no line ends the trace comes first, then why the drawing is refused.
-pub data Judged (from : ℕ) (text : List ℕ) : TraceOutcome → List ℕ → Type 0 where
-  no_end : HasNoTrace text → Judged from text (BadTrace 0) []
+pub data Judged (trial : Trial) (text : List ℕ) : TraceOutcome → List ℕ → Type 0 where
+  no_end : HasNoTrace text → Judged trial text (BadTrace 0) []
   refused : (lines : List (List ℕ)) (drawing : List ℕ) (r : Refusal) → HasTrace text lines drawing →
-      IsTextRefused drawing r → Judged from text (Refused r) (refusal_line r)
+      IsTextRefused drawing r → Judged trial text (Refused r) (refusal_line r)
   on_circuit : (lines : List (List ℕ)) (drawing : List ℕ) (c : Circuit)
       (cases : List (List CaseValue))
       (o : TraceOutcome) (bytes : List ℕ) → HasTrace text lines drawing →
       DrawsCircuit drawing c cases →
-      JudgedOn c lines from o bytes → Judged from text o bytes
+      JudgedOn c lines trial o bytes → Judged trial text o bytes

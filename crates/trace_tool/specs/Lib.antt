@@ -10,6 +10,7 @@ pub mod Break
 pub mod Interface
 pub mod Pass
 pub mod Trace
+pub mod Extent
 pub mod Reading
 pub mod Scan
 pub mod Taking

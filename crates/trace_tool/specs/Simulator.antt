@@ -13,7 +13,7 @@ use Rattle.trace_tool.specs.Words.{command_of}
 -- the most bytes that are read: a drawing, or a trace and a drawing
 abbrev pub most_of : Command → ℕ
 most_of (Run asked) = 4194304
-most_of (Judge from) = 16777216
+most_of (Judge trial) = 16777216
 
 abbrev pub most_bytes : Result Command ℕ → ℕ
 most_bytes (Ok command) = most_of command
@@ -21,7 +21,7 @@ most_bytes (Err i) = 0
 
 abbrev pub Replied : Command → List ℕ → TraceOutcome → List ℕ → Type 0
 Replied (Run asked) text = Ran asked text
-Replied (Judge from) text = Judged from text
+Replied (Judge trial) text = Judged trial text
 
 -- Both forms read.
 abbrev pub simulator : Meaning Command TraceOutcome

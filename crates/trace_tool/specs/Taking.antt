@@ -1,6 +1,7 @@
 -- A trace that is read line by line.
 use Rattle.std.specs.Prelude.{◌≡◌, ◌≢◌, ℕ, ◌<◌, List, length, Some}
 use Rattle.flat_circuit.specs.Circuit.{Circuit}
+use Rattle.trace_tool.specs.declared.extent.Extent.{Extent}
 use Rattle.trace_tool.specs.declared.trace.Trace.{Trace}
 use Rattle.trace_tool.specs.declared.trace.TraceFault.{TraceFault}
 use Rattle.trace_tool.specs.declared.trace.TraceFault.TheVariants.{WrongLine, NoMemory}
@@ -23,8 +24,8 @@ IsLineOf c (Bits n) = n < length c.nets
 IsLineOf c End = Unit {0}
 
 -- The line is right in the new trace, which says else what the old one does.
-pub record IsTaken (c : Circuit) (old new : Trace) (of : Line) (line : List ℕ) : Type 0 where
-  pub right : IsRight c new (Some of) (Some line)
+pub record IsTaken (e : Extent) (c : Circuit) (old new : Trace) (of : Line) (line : List ℕ) : Type 0 where
+  pub right : IsRight e c new (Some of) (Some line)
   pub long : AreLong c new
   pub ticks : of ≢ Head → new.ticks ≡ old.ticks
   pub delays : (k : ℕ) → of ≢ Delays k → pick_at new k ≡ pick_at old k
@@ -32,11 +33,11 @@ pub record IsTaken (c : Circuit) (old new : Trace) (of : Line) (line : List ℕ)
   pub bits : (n : ℕ) → of ≢ Bits n → row_at new n ≡ row_at old n
 
 -- The line is right in no trace of so many ticks as this one.
-abbrev pub IsRefused : Circuit → Trace → Line → List ℕ → Type 0
-IsRefused c old of line =
-    (t : Trace) → (of ≢ Head → t.ticks ≡ old.ticks) → IsRight c t (Some of) (Some line) → ⊥
+abbrev pub IsRefused : Extent → Circuit → Trace → Line → List ℕ → Type 0
+IsRefused e c old of line =
+    (t : Trace) → (of ≢ Head → t.ticks ≡ old.ticks) → IsRight e c t (Some of) (Some line) → ⊥
 
 -- the fault is that of these lines
-abbrev pub IsFault : Circuit → List (List ℕ) → TraceFault → Type 0
-IsFault c lines (WrongLine i) = IsWrongLine c lines i
-IsFault c lines NoMemory = Unit {0}
+abbrev pub IsFault : Extent → Circuit → List (List ℕ) → TraceFault → Type 0
+IsFault e c lines (WrongLine i) = IsWrongLine e c lines i
+IsFault e c lines NoMemory = Unit {0}

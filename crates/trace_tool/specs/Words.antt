@@ -1,22 +1,24 @@
 -- The forms of words that the simulator has: `run T SEED`, then `case=K` if the run is to be in a
--- case; `vcd T SEED`, then the same, then `tick=1ns` or another length; and `judge F`.
-use Rattle.std.specs.Prelude.{ℕ, ◌+◌, ◌-◌, ◌^◌, ◌≤◌, ◌&&◌, nat_le, List, [], ◌∷◌, length, take, drop, codes, decimal, Option, Some, None, IfSome, Result, Ok, Err, if◌then◌else◌}
+-- case; `vcd T SEED`, then the same, then `tick=1ns` or another length; and `judge F`. With `long`
+-- last, a run that is drawn as a trace or judged may have more ticks.
+use Rattle.std.specs.Prelude.{ℕ, ◌+◌, ◌-◌, ◌^◌, ◌≤◌, ◌&&◌, nat_le, Bool, List, [], ◌∷◌, length, take, drop, codes, decimal, Option, Some, None, slice_get, IfSome, Result, Ok, Err, if◌then◌else◌}
 use Rattle.std.specs.Str.{bytes_eq}
 use Rattle.scald_lex.specs.Bytes.{value_of}
 use Rattle.trace_tool.specs.declared.words.Command.{Command}
 use Rattle.trace_tool.specs.declared.words.Command.TheVariants.{Run, Judge}
 use Rattle.trace_tool.specs.declared.asked.Asked.{Asked}
+use Rattle.trace_tool.specs.declared.asked.Trial.{Trial}
 use Rattle.trace_tool.specs.declared.asked.Format.{Format}
 use Rattle.trace_tool.specs.declared.asked.Format.TheVariants.{Trace, Dump}
+use Rattle.trace_tool.specs.declared.extent.Extent.{Extent}
+use Rattle.trace_tool.specs.declared.extent.Extent.TheVariants.{Short, Long}
 use Rattle.trace_tool.specs.declared.tick.Count.TheVariants.{One}
 use Rattle.trace_tool.specs.declared.tick.Unit.TheVariants.{Nanoseconds}
 use Rattle.trace_tool.specs.declared.tick.TickLength.{TickLength}
+use Rattle.trace_tool.specs.Extent.{most_ticks}
 use Rattle.trace_tool.specs.Tick.{tick_of}
 
--- ticks of a run, cases of a drawing, and the greatest seed
-abbrev pub most_ticks : ℕ
-most_ticks = 4096
-
+-- cases of a drawing, and the greatest seed
 abbrev pub most_cases : ℕ
 most_cases = 256
 
@@ -48,6 +50,24 @@ abbrev pub alone : Command → ℕ → List (List ℕ) → Result Command ℕ
 alone command place [] = Ok command
 alone command place (w ∷ ws) = Err place
 
+-- ---- `long`
+
+abbrev pub is_long : List ℕ → Bool
+is_long word = bytes_eq word (codes "long")
+
+abbrev pub extent_by : Option (List ℕ) → Extent
+extent_by None = Short
+extent_by (Some word) = if is_long word then Long else Short
+
+-- how long a run may be, by the last word
+abbrev pub extent_of : List (List ℕ) → Extent
+extent_of words = extent_by (slice_get words (length words - 1))
+
+-- after the other words of the form, from this place on, there is nothing or `long`
+abbrev pub at_end : Command → ℕ → List (List ℕ) → Result Command ℕ
+at_end command place [] = Ok command
+at_end command place (w ∷ ws) = if is_long w then alone command (place + 1) ws else Err place
+
 -- ---- what is asked of a run
 
 abbrev pub tick_behind : Option (List ℕ) → Option TickLength
@@ -66,9 +86,9 @@ with_tick a place None others = Err place
 with_tick a place (Some tick) others =
     alone (Run (asked (Dump tick) a.ticks a.seed a.case)) (place + 1) others
 
--- what may follow the case, by the word at this place: nothing, and of a dump the length of a tick
+-- what may follow the case, by the word at this place: `long`, and of a dump the length of a tick
 abbrev pub last_word : Format → Asked → ℕ → List ℕ → List (List ℕ) → Result Command ℕ
-last_word Trace a place w ws = Err place
+last_word Trace a place w ws = at_end (Run a) place (w ∷ ws)
 last_word (Dump tick) a place w ws = with_tick a place (tick_asked w) ws
 
 abbrev pub after_case : Asked → ℕ → List (List ℕ) → Result Command ℕ
@@ -95,21 +115,30 @@ abbrev pub with_ticks : Format → Option ℕ → List (List ℕ) → Result Com
 with_ticks format None others = Err 1
 with_ticks format (Some ticks) others = after_ticks format ticks others
 
+-- no dump is long
+abbrev pub extent_asked : Format → List (List ℕ) → Extent
+extent_asked Trace words = extent_of words
+extent_asked (Dump tick) words = Short
+
 abbrev pub after_run : Format → List (List ℕ) → Result Command ℕ
 after_run format [] = Err 1
-after_run format (w ∷ ws) = with_ticks format (number_in 1 most_ticks w) ws
+after_run format (w ∷ ws) = with_ticks format (number_in 1 (most_ticks (extent_asked format ws)) w) ws
 
 -- the length of a tick if no word sets it
 abbrev pub nanosecond : TickLength
 nanosecond = record { count = One; unit = Nanoseconds }
 
-abbrev pub with_from : Option ℕ → List (List ℕ) → Result Command ℕ
-with_from None others = Err 1
-with_from (Some from) others = alone (Judge from) 2 others
+abbrev pub trial : ℕ → Extent → Trial
+trial from extent = record { from = from; extent = extent }
+
+abbrev pub with_from : Extent → Option ℕ → List (List ℕ) → Result Command ℕ
+with_from extent None others = Err 1
+with_from extent (Some from) others = at_end (Judge (trial from extent)) 2 others
 
 abbrev pub after_judge : List (List ℕ) → Result Command ℕ
 after_judge [] = Err 1
-after_judge (w ∷ ws) = with_from (number_in 0 most_ticks w) ws
+after_judge (w ∷ ws) =
+    with_from (extent_of ws) (number_in 0 (most_ticks (extent_of ws)) w) ws
 
 -- The form that the words have. Of other words it is the number of the first with which no form
 -- goes on, or the count of words if one is missing.
@@ -126,6 +155,6 @@ command_of (w ∷ ws) =
 -- ticks, a seed and a case that there may be
 abbrev pub IsWithin : Command → Type 0
 IsWithin (Run a) =
-    ((1 ≤ a.ticks) × (a.ticks ≤ most_ticks))
+    ((1 ≤ a.ticks) × (a.ticks ≤ most_ticks Long))
     × ((a.seed ≤ greatest_seed) × IfSome a.case (λ k. (1 ≤ k) × (k ≤ most_cases)))
-IsWithin (Judge from) = from ≤ most_ticks
+IsWithin (Judge trial) = trial.from ≤ most_ticks trial.extent

@@ -8,6 +8,7 @@ ghost use Rattle.trace_tool.specs.Reading.{IsEnded, IsTrace};
 ghost use Rattle.trace_tool.specs.Scan.{lines_of};
 ghost use Rattle.trace_tool.specs.Judged.{Judged, JudgedOn, Verdict, run_in};
 
+use crate::asked::Trial;
 use crate::outcome::TraceOutcome;
 use crate::replies::{refused, silent};
 use crate::verdict::{add_break, add_inputs, add_no_run, add_run, outcome_of};
@@ -24,15 +25,15 @@ use trace_sim::{Choice, Levels, Traces, first_failure};
 /// is a run of the circuit that the rest of the text draws, whether its inputs keep their
 /// assertions, and what breaks first; or why the drawing is refused, or which line of the trace is
 /// wrong.
-pub fn judge(alloc: Global, text: &[u8], from: u16) -> Result<Reply<TraceOutcome>, NoMemory>
+pub fn judge(alloc: Global, text: &[u8], trial: Trial) -> Result<Reply<TraceOutcome>, NoMemory>
     requires { length text.now < 2 ^ 32 - 1 }
-    ensures { IfOk result (λ reply. Judged from text.now reply.outcome reply.bytes) }
+    ensures { IfOk result (λ reply. Judged trial text.now reply.outcome reply.bytes) }
 {
     let Some((lines, drawing)) = split_trace(text) else {
         return Ok(silent(alloc, TraceOutcome::BadTrace(0)));
     };
     match read_circuit(alloc, drawing) {
-        Ok(drawn) => judge_lines(alloc, &drawn.circuit, lines, from),
+        Ok(drawn) => judge_lines(alloc, &drawn.circuit, lines, trial),
         Err(Stop::Refused(refusal)) => refused(alloc, refusal),
         Err(Stop::NoMemory) => Err(NoMemory),
     }
@@ -43,14 +44,14 @@ fn judge_lines(
     alloc: Global,
     c: &Circuit,
     lines: &[u8],
-    from: u16,
+    trial: Trial,
 ) -> Result<Reply<TraceOutcome>, NoMemory>
     requires { IsEnded (lines_of lines.now) }
     ensures { IfOk result (λ reply.
-        JudgedOn c.now (lines_of lines.now) from reply.outcome reply.bytes) }
+        JudgedOn c.now (lines_of lines.now) trial reply.outcome reply.bytes) }
 {
-    match read_trace(alloc, c, lines) {
-        Ok(trace) => judge_trace(alloc, c, trace, from),
+    match read_trace(alloc, trial.extent, c, lines) {
+        Ok(trace) => judge_trace(alloc, c, trace, trial),
         Err(TraceFault::WrongLine(i)) => Ok(silent(alloc, TraceOutcome::BadTrace(i))),
         Err(TraceFault::NoMemory) => Err(NoMemory),
     }
@@ -61,10 +62,10 @@ fn judge_trace(
     alloc: Global,
     c: &Circuit,
     trace: Trace,
-    from: u16,
+    trial: Trial,
 ) -> Result<Reply<TraceOutcome>, NoMemory>
-    requires { IsTrace c.now trace }
-    ensures { IfOk result (λ reply. Verdict c.now (run_in trace) from reply.outcome reply.bytes) }
+    requires { IsTrace trial.extent c.now trace }
+    ensures { IfOk result (λ reply. Verdict c.now (run_in trace) trial.from reply.outcome reply.bytes) }
 {
     c.known();
     let choice = Choice {
@@ -83,7 +84,7 @@ fn judge_trace(
                 bytes: Output::whole(bytes),
             })
         }
-        None => judge_run(alloc, c, &choice, trace.ticks, bits, from),
+        None => judge_run(alloc, c, &choice, trace.ticks, bits, trial.from),
     }
 }
 

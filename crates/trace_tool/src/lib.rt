@@ -2,7 +2,8 @@
 //!
 //! `run T SEED` draws a run of so many ticks by the words of a generator that is seeded so, in a
 //! case if `case=K` follows, and `vcd T SEED` writes the same run as a value change dump; `judge F`
-//! says whether a trace is a run, and what breaks in it from tick F on. The program calls
+//! says whether a trace is a run, and what breaks in it from tick F on. With `long` last, `run` and
+//! `judge` take up to 65,535 ticks in place of 4,096. The program calls
 //! [`trace_main`], the main call of `program_call` for [`Simulator`] (`specs/Simulator`);
 //! `specs/Ran` says what `run` and `vcd` reply, and `specs/Judged` what `judge` does.
 //!
@@ -59,6 +60,7 @@ mod level;
 
 // words and outcomes
 mod asked;
+mod extent;
 mod outcome;
 mod words;
 
@@ -72,11 +74,12 @@ mod call;
 mod replies;
 mod simulator;
 
-pub use asked::{Asked, Format};
+pub use asked::{Asked, Format, Trial};
 pub use call::trace_main;
 pub use drawn::run;
 pub use dump::write_dump;
 pub use element::Element;
+pub use extent::Extent;
 pub use first::first_break;
 pub use judged::judge;
 pub use outcome::{TraceOutcome, trace_status};

@@ -11,9 +11,11 @@ ghost use Rattle.listing.specs.Names.{instance_name};
 ghost use Rattle.listing.specs.Text.{bit_text};
 ghost use Rattle.trace_sim.specs.Choice.{PickFits};
 ghost use Rattle.trace_tool.specs.Trace.{head_line, instance_line, net_line};
-ghost use Rattle.trace_tool.specs.Reading.{IsFitPick, most_ticks};
+ghost use Rattle.trace_tool.specs.Extent.{most_ticks};
+ghost use Rattle.trace_tool.specs.Reading.{IsFitPick};
 ghost use Rattle.trace_tool.specs.Scan.{AreSmall, IsGuess, numbers_of, picked, picks_count, shown};
 
+use crate::extent::Extent;
 use crate::scan::numbers;
 use crate::write::{add_head, add_instance, add_net};
 use element_kinds::Form;
@@ -23,9 +25,6 @@ use scald_base::{Bytes, List, NoMemory};
 use std::alloc::Global;
 use trace_sim::{Levels, pick_fits};
 use vector_names::Indices;
-
-/// The most ticks of a trace.
-const MOST_TICKS: u16 = 4096;
 
 /// The number at a place, or 0 past the last.
 fn nth(found: &[u16], at: usize) -> u16
@@ -80,17 +79,18 @@ fn is_head(alloc: Global, ticks: u16, line: &[u8]) -> Result<bool, NoMemory>
     Ok(line == text.as_slice())
 }
 
-/// The ticks that a head says, if it is one.
-pub(crate) fn read_head(alloc: Global, line: &[u8]) -> Result<Option<u16>, NoMemory>
+/// The ticks that a head says, if it is one of a trace that may be so long.
+pub(crate) fn read_head(alloc: Global, extent: Extent, line: &[u8]) -> Result<Option<u16>, NoMemory>
     ensures { IfOk result (λ found. MatchOption found
-        ((n : ℕ) → 1 ≤ n → n ≤ most_ticks → line.now ≡ head_line n → ⊥)
-        (λ n. (1 ≤ n) × (n ≤ most_ticks) × (line.now ≡ head_line n))) }
+        ((n : ℕ) → 1 ≤ n → n ≤ most_ticks extent → line.now ≡ head_line n → ⊥)
+        (λ n. (1 ≤ n) × (n ≤ most_ticks extent) × (line.now ≡ head_line n))) }
 {
+    let most = extent.most_ticks();
     let ticks = first_number(alloc, line)?;
     if ticks < 1 {
         return Ok(None);
     }
-    if MOST_TICKS < ticks {
+    if most < ticks {
         return Ok(None);
     }
     if !is_head(alloc, ticks, line)? {

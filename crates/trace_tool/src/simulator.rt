@@ -52,7 +52,7 @@ impl Program for Simulator {
     ) -> Result<Reply<TraceOutcome>, NoMemory> {
         match command {
             Command::Run(asked) => run(alloc, text, asked),
-            Command::Judge(from) => judge(alloc, text, from),
+            Command::Judge(trial) => judge(alloc, text, trial),
         }
     }
 

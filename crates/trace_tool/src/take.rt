@@ -2,11 +2,13 @@
 
 ghost use Rattle.std.specs.Prelude.{◌≡◌, ◌<◌, length, IfOk, MatchBool, MatchResult};
 ghost use Rattle.flat_circuit.specs.Circuit.{Circuit as Flat};
+ghost use Rattle.trace_tool.specs.declared.extent.Extent.{Extent as Length};
 ghost use Rattle.trace_tool.specs.declared.line.Line.TheVariants.{Bits, Delays, Head};
 ghost use Rattle.trace_tool.specs.Reading.{IsEnded, IsReadAs};
 ghost use Rattle.trace_tool.specs.Scan.{lines_of};
 ghost use Rattle.trace_tool.specs.Taking.{AreLong, IsFault, IsLineOf, IsRefused, IsTaken};
 
+use crate::extent::Extent;
 use crate::line::{Line, line_at, line_count};
 use crate::read::{read_bits, read_delays, read_head};
 use crate::split::next_line;
@@ -19,6 +21,7 @@ use trace_sim::{DelayPicks, Traces, WirePicks};
 /// Takes what a line says into a trace; `false` exactly if the line is wrong.
 fn take_line(
     alloc: Global,
+    extent: Extent,
     c: &Circuit,
     of: Line,
     line: &[u8],
@@ -27,21 +30,26 @@ fn take_line(
     requires of_circuit { IsLineOf c.now of }
     requires long { AreLong c.now trace.old }
     ensures { IfOk result (λ right. MatchBool right
-        (IsTaken c.now trace.old trace.new of line.now) (IsRefused c.now trace.old of line.now)) }
+        (IsTaken extent c.now trace.old trace.new of line.now) (IsRefused extent c.now trace.old of line.now)) }
 {
     match of {
-        Line::Head => take_head(alloc, line, trace),
+        Line::Head => take_head(alloc, extent, line, trace),
         Line::Delays(k) => take_delays(alloc, c, k, line, trace),
         Line::Bits(net) => take_bits(alloc, c, net, line, trace),
         Line::End => Ok(line == b"END TRACE".as_slice()),
     }
 }
 
-fn take_head(alloc: Global, line: &[u8], trace: &mut Trace) -> Result<bool, NoMemory>
+fn take_head(
+    alloc: Global,
+    extent: Extent,
+    line: &[u8],
+    trace: &mut Trace,
+) -> Result<bool, NoMemory>
     ensures { (c : Flat) → AreLong c trace.old → IfOk result (λ right. MatchBool right
-        (IsTaken c trace.old trace.new Head line.now) (IsRefused c trace.old Head line.now)) }
+        (IsTaken extent c trace.old trace.new Head line.now) (IsRefused extent c trace.old Head line.now)) }
 {
-    match read_head(alloc, line)? {
+    match read_head(alloc, extent, line)? {
         None => Ok(false),
         Some(ticks) => {
             trace.ticks = ticks;
@@ -59,9 +67,9 @@ fn take_delays(
 ) -> Result<bool, NoMemory>
     requires inside { k < length c.now.instances }
     requires long { AreLong c.now trace.old }
-    ensures { IfOk result (λ right. MatchBool right
-        (IsTaken c.now trace.old trace.new (Delays k) line.now)
-        (IsRefused c.now trace.old (Delays k) line.now)) }
+    ensures { (e : Length) → IfOk result (λ right. MatchBool right
+        (IsTaken e c.now trace.old trace.new (Delays k) line.now)
+        (IsRefused e c.now trace.old (Delays k) line.now)) }
 {
     let Some(i) = c.instance(k) else {
         return Ok(false);
@@ -85,9 +93,9 @@ fn take_bits(
 ) -> Result<bool, NoMemory>
     requires inside { net < length c.now.nets }
     requires long { AreLong c.now trace.old }
-    ensures { IfOk result (λ right. MatchBool right
-        (IsTaken c.now trace.old trace.new (Bits net) line.now)
-        (IsRefused c.now trace.old (Bits net) line.now)) }
+    ensures { (e : Length) → IfOk result (λ right. MatchBool right
+        (IsTaken e c.now trace.old trace.new (Bits net) line.now)
+        (IsRefused e c.now trace.old (Bits net) line.now)) }
 {
     match read_bits(alloc, c, net, trace.ticks, line)? {
         None => Ok(false),
@@ -141,12 +149,17 @@ fn begun(alloc: Global, c: &Circuit) -> Result<Trace, NoMemory>
     })
 }
 
-/// The trace of the circuit whose lines these are: those of `split_trace`. If they are not, the
-/// first line that lacks the form, the name or the bounds of its place.
-pub fn read_trace(alloc: Global, c: &Circuit, lines: &[u8]) -> Result<Trace, TraceFault>
+/// The trace of the circuit, which may be so long, whose lines these are: those of `split_trace`. If
+/// they are not, the first line that lacks the form, the name or the bounds of its place.
+pub fn read_trace(
+    alloc: Global,
+    extent: Extent,
+    c: &Circuit,
+    lines: &[u8],
+) -> Result<Trace, TraceFault>
     requires { IsEnded (lines_of lines.now) }
-    ensures { MatchResult result (IsReadAs c.now (lines_of lines.now))
-        (IsFault c.now (lines_of lines.now)) }
+    ensures { MatchResult result (IsReadAs extent c.now (lines_of lines.now))
+        (IsFault extent c.now (lines_of lines.now)) }
 {
     c.known();
     let mut trace = begun(alloc, c)?;
@@ -157,7 +170,7 @@ pub fn read_trace(alloc: Global, c: &Circuit, lines: &[u8]) -> Result<Trace, Tra
             Some(of) => match next_line(rest) {
                 None => return Err(TraceFault::WrongLine(place + 1)),
                 Some((line, after)) => {
-                    if !take_line(alloc, c, of, line, &mut trace)? {
+                    if !take_line(alloc, extent, c, of, line, &mut trace)? {
                         return Err(TraceFault::WrongLine(place + 1));
                     }
                     rest = after;

@@ -2,15 +2,13 @@
 
 ghost use Rattle.std.specs.Prelude.{◌≡◌, ◌-◌, ◌^◌, ◌≤◌, IfOk, IfSome, min};
 ghost use Rattle.scald_lex.specs.Bytes.{value_of};
-ghost use Rattle.trace_tool.specs.Words.{IsWithin, alone, after_case, after_judge, after_run, after_seed, after_ticks, case_of, command_of, number_in, tick_asked};
+ghost use Rattle.trace_tool.specs.Words.{IsWithin, alone, after_case, after_judge, after_run, after_seed, after_ticks, at_end, case_of, command_of, extent_asked, extent_of, is_long, number_in, tick_asked};
 
 use crate::TickLength;
-use crate::asked::{Asked, Format};
+use crate::asked::{Asked, Format, Trial};
+use crate::extent::Extent;
 use itoa::Buffer;
 use scald_base::{Bytes, Words};
-
-/// The most ticks of a run.
-const MOST_TICKS: u64 = 4096;
 
 /// The most cases of a drawing.
 const MOST_CASES: u64 = 256;
@@ -20,8 +18,8 @@ const MOST_CASES: u64 = 256;
 pub enum Command {
     /// `run` and `vcd`: a run.
     Run(Asked),
-    /// `judge`: what is to be said of a trace, with breaks from a tick of 0 to 4,096 on.
-    Judge(u16),
+    /// `judge`: what is to be said of a trace.
+    Judge(Trial),
 }
 
 /// What the words ask for. If they are unrecognised, `Err` is the number of the first with which
@@ -57,6 +55,56 @@ fn alone(command: Command, place: u32, others: &[Bytes]) -> Result<Command, u32>
     }
 }
 
+/// Whether the word asks for a long run.
+fn is_long(word: &[u8]) -> bool
+    ensures { result ≡ is_long word.now }
+{
+    word == b"long".as_slice()
+}
+
+/// How long a run may be, by the last word.
+fn extent_of(words: &[Bytes]) -> Extent
+    ensures { result ≡ extent_of words.now }
+{
+    match words.last() {
+        None => Extent::Short,
+        Some(word) => {
+            if is_long(word.as_slice()) {
+                Extent::Long
+            } else {
+                Extent::Short
+            }
+        }
+    }
+}
+
+/// The command, if after the words that ask for it, from this place on, there is nothing or `long`.
+fn at_end(command: Command, place: u32, words: &[Bytes]) -> Result<Command, u32>
+    requires within { IsWithin command }
+    requires few { place ≤ 4 }
+    ensures is { result ≡ at_end command place words.now }
+    ensures within { IfOk result IsWithin }
+{
+    let [first, others @ ..] = words else {
+        return Ok(command);
+    };
+    if is_long(first.as_slice()) {
+        alone(command, place + 1, others)
+    } else {
+        Err(place)
+    }
+}
+
+/// How long a run may be that is written so: no dump is long.
+fn extent_asked(format: Format, words: &[Bytes]) -> Extent
+    ensures { result ≡ extent_asked format words.now }
+{
+    match format {
+        Format::Trace => extent_of(words),
+        Format::Dump(_) => Extent::Short,
+    }
+}
+
 /// What the words after `run` or `vcd` ask for.
 fn after_run(format: Format, words: &[Bytes]) -> Result<Command, u32>
     ensures is { result ≡ after_run format words.now }
@@ -65,7 +113,8 @@ fn after_run(format: Format, words: &[Bytes]) -> Result<Command, u32>
     let [first, others @ ..] = words else {
         return Err(1);
     };
-    match number_in(1, MOST_TICKS, first.as_slice()) {
+    let most = extent_asked(format, others).most_ticks();
+    match number_in(1, u64::from(most), first.as_slice()) {
         Some(ticks) => after_ticks(format, ticks as u16, others),
         None => Err(1),
     }
@@ -73,7 +122,7 @@ fn after_run(format: Format, words: &[Bytes]) -> Result<Command, u32>
 
 /// What the words after the number of ticks ask for.
 fn after_ticks(format: Format, ticks: u16, words: &[Bytes]) -> Result<Command, u32>
-    requires { (1 ≤ ticks) × (ticks ≤ 4096) }
+    requires { 1 ≤ ticks }
     ensures is { result ≡ after_ticks format ticks words.now }
     ensures within { IfOk result IsWithin }
 {
@@ -88,7 +137,7 @@ fn after_ticks(format: Format, ticks: u16, words: &[Bytes]) -> Result<Command, u
 
 /// What the words after the seed ask for.
 fn after_seed(format: Format, ticks: u16, seed: u64, words: &[Bytes]) -> Result<Command, u32>
-    requires { (1 ≤ ticks) × (ticks ≤ 4096) }
+    requires { 1 ≤ ticks }
     ensures is { result ≡ after_seed format ticks seed words.now }
     ensures within { IfOk result IsWithin }
 {
@@ -110,8 +159,8 @@ fn after_seed(format: Format, ticks: u16, seed: u64, words: &[Bytes]) -> Result<
     }
 }
 
-/// What the words after the case ask for, of which the first has this number: a dump may have the
-/// length of its ticks.
+/// What the words after the case ask for, of which the first has this number: a trace may be long,
+/// and a dump may have the length of its ticks.
 fn after_case(asked: Asked, place: u32, words: &[Bytes]) -> Result<Command, u32>
     requires within { IsWithin (Command.Run asked) }
     requires few { place ≤ 4 }
@@ -122,7 +171,7 @@ fn after_case(asked: Asked, place: u32, words: &[Bytes]) -> Result<Command, u32>
         return Ok(Command::Run(asked));
     };
     match asked.format {
-        Format::Trace => Err(place),
+        Format::Trace => at_end(Command::Run(asked), place, words),
         Format::Dump(_) => match tick_asked(first.as_slice()) {
             Some(tick) => {
                 let format = Format::Dump(tick);
@@ -151,8 +200,12 @@ fn after_judge(words: &[Bytes]) -> Result<Command, u32>
     let [first, others @ ..] = words else {
         return Err(1);
     };
-    match number_in(0, MOST_TICKS, first.as_slice()) {
-        Some(from) => alone(Command::Judge(from as u16), 2, others),
+    let extent = extent_of(others);
+    match number_in(0, u64::from(extent.most_ticks()), first.as_slice()) {
+        Some(from) => {
+            let from = from as u16;
+            at_end(Command::Judge(Trial { from, extent }), 2, others)
+        }
         None => Err(1),
     }
 }

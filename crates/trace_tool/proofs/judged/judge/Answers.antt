@@ -6,18 +6,18 @@ use Rattle.trace_tool.proofs.judged.judge.Goals as goal
 
 pub returns-in_default : goal.returns-in_default
 returns-in_default c =
-    no_end_reply c.args.from c.args.text.now c.silent.result.outcome c.silent.result.bytes c.in_default.ensures c.silent.ensures.outcome
+    no_end_reply c.args.trial c.args.text.now c.silent.result.outcome c.silent.result.bytes c.in_default.ensures c.silent.ensures.outcome
     c.silent.ensures.bytes
 
 pub returns-in-Ok : goal.returns-in-Ok
 returns-in-Ok c =
     let drawn = c.in-Ok.drawn in
-    on_circuit_reply c.args.from c.args.text.now (lines_of c.in-Some.lines.now) c.in-Some.drawing.now drawn.circuit drawn.cases c.judge_lines.result
+    on_circuit_reply c.args.trial c.args.text.now (lines_of c.in-Some.lines.now) c.in-Some.drawing.now drawn.circuit drawn.cases c.judge_lines.result
     c.in-Some.ensures c.in-Ok.ensures.drawn c.judge_lines.ensures
 
 pub returns-in-Err-Refused : goal.returns-in-Err-Refused
 returns-in-Err-Refused c =
-    unread_reply c.args.from c.args.text.now (lines_of c.in-Some.lines.now) c.in-Some.drawing.now _ c.refused.result c.in-Some.ensures
+    unread_reply c.args.trial c.args.text.now (lines_of c.in-Some.lines.now) c.in-Some.drawing.now _ c.refused.result c.in-Some.ensures
     (subst (IsTextRefused c.in-Some.drawing.now) (sym c.in-Err-Refused.refusal-is)
     (c.in-Err-Refused.ensures.refused c.in-Err-Refused.refusal c.in-Err-Refused.field-0-is))
     c.refused.ensures.outcome c.refused.ensures.bytes

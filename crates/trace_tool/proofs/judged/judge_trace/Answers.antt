@@ -12,7 +12,7 @@ use Rattle.trace_tool.proofs.judged.judge_trace.Goals as goal
 
 pub first_failure-requires : goal.first_failure-requires
 first_failure-requires c =
-    trace_picks c.args.c.now c.args.trace (record { delays = c.args.trace.delays; wires = c.args.trace.wires; inputs = c.new.result; free = c.new-2.result })
+    trace_picks c.args.trial.extent c.args.c.now c.args.trace (record { delays = c.args.trace.delays; wires = c.args.trace.wires; inputs = c.new.result; free = c.new-2.result })
     refl refl c.requires
 
 pub returns-in-Some : goal.returns-in-Some
@@ -21,7 +21,7 @@ returns-in-Some c =
     let trace = c.args.trace in
     let choices = choices_of (record { delays = trace.delays; wires = trace.wires; inputs = c.new.result; free = c.new-2.result }) in
     let run = run_of trace.ticks choices c.as_slice-bits.result.now in
-    no_run_reply circuit (run_in trace) c.args.from c.in-Some.tick c.in-Some.net c.whole.result
+    no_run_reply circuit (run_in trace) c.args.trial.from c.in-Some.tick c.in-Some.net c.whole.result
     (subst (λ (bits : Bits). FailsFirst circuit (run_of trace.ticks choices bits) c.in-Some.tick c.in-Some.net) c.as_slice-bits.ensures
     (subst (λ o. MatchOption o (EachObeys circuit run) (λ f. FailsFirst circuit run f.0 f.1)) c.in-Some.is c.in_ok-tick.ensures))
     (c.whole.ensures ∙ c.in_ok-add_no_run-in-Some.ensures
@@ -33,6 +33,6 @@ judge_run-requires-clause-is_run c =
     let trace = c.args.trace in
     let choice : Choice = record { delays = trace.delays; wires = trace.wires; inputs = c.new.result; free = c.new-2.result } in
     let run = run_of trace.ticks (choices_of choice) c.as_slice-bits.result.now in
-    is_run circuit choice trace.ticks c.as_slice-bits.result.now c.known.ensures (trace_picks circuit trace choice refl refl c.requires)
+    is_run circuit choice trace.ticks c.as_slice-bits.result.now c.known.ensures (trace_picks c.args.trial.extent circuit trace choice refl refl c.requires)
     (subst (λ (bits : Bits). AreTraces (length circuit.nets) trace.ticks bits) (sym c.as_slice-bits.ensures) c.requires.bits)
     (subst (λ o. MatchOption o (EachObeys circuit run) (λ f. FailsFirst circuit run f.0 f.1)) c.in-None.is c.in_ok-tick.ensures)

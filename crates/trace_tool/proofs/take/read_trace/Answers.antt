@@ -19,7 +19,7 @@ use Rattle.trace_tool.proofs.take.read_trace.Goals.{in-None, in-Some+in-Some-nex
 pub returns-in-None-next_line : goal.returns-in-None-next_line
 returns-in-None-next_line c =
     let count = c.line_count-place-end.ensures in
-    absurd (not_missing c.args.c.now c.loop-place.trace (lines_of c.args.lines.now) c.loop-place.place c.requires
+    absurd (not_missing c.args.extent c.args.c.now c.loop-place.trace (lines_of c.args.lines.now) c.loop-place.place c.requires
     (none_left (lines_of c.args.lines.now) c.loop-place.place (c.loop-place.invariant.cut ∙ c.in-None-next_line.ensures))
     (omega (arith, count, c.loop-place-test.true)) c.loop-place.invariant.right)
 
@@ -36,7 +36,7 @@ returns-then-not-branch c =
     let cut =
     rest_cut lines (lines_of after) c.loop-place.place line
     (c.loop-place.invariant.cut ∙ first_cut c.loop-place.rest.now line after c.in-Some-next_line.ensures) in
-    is_wrong c.args.c.now c.loop-place.trace lines c.loop-place.place c.in-Some.of line (sym c.in-Some.ensures) cut.first
+    is_wrong c.args.extent c.args.c.now c.loop-place.trace lines c.loop-place.place c.in-Some.of line (sym c.in-Some.ensures) cut.first
     (rw c.if-not-branch.true at c.in_ok-take_line-in-Some-next_line.ensures) c.loop-place.invariant.right
 
 pub loop-place-preserved : goal.loop-place-preserved
@@ -57,8 +57,8 @@ loop-place-preserved c =
           let taken = rw w.if-not-branch.false at w.in_ok-take_line-in-Some-next_line.ensures in
           record {
             long = subst (AreLong circuit) (sym w.trace-is) taken.long;
-            right = subst (λ (trace : Trace). AreRight circuit trace lines (c.loop-place.place + 1)) (sym w.trace-is)
-                (one_right circuit c.known.ensures c.loop-place.trace w.take_line.new.trace lines c.loop-place.place w.in-Some.of line
+            right = subst (λ (trace : Trace). AreRight c.args.extent circuit trace lines (c.loop-place.place + 1)) (sym w.trace-is)
+                (one_right c.args.extent circuit c.known.ensures c.loop-place.trace w.take_line.new.trace lines c.loop-place.place w.in-Some.of line
                 (sym w.in-Some.ensures) cut.first taken c.loop-place.invariant.right);
             cut = cut.others ∙ ap (λ rest. lines_of rest.now) (sym w.rest-is);
           }
@@ -79,8 +79,8 @@ returns-in-None-next_line-2 c =
     let count = c.line_count-place-end.ensures in
     let last : c.loop-place.place ≡ length (line_order circuit) = omega (arith, count, c.loop-place-test.false, c.loop-place.auto.place-end) in
     let short = none_left lines c.loop-place.place (c.loop-place.invariant.cut ∙ c.in-None-next_line-2.ensures) in
-    is_read circuit c.known.ensures trace lines (omega (arith, short, last)) c.loop-place.invariant.long
-    (subst (AreRight circuit trace lines) last c.loop-place.invariant.right)
+    is_read c.args.extent circuit c.known.ensures trace lines (omega (arith, short, last)) c.loop-place.invariant.long
+    (subst (AreRight c.args.extent circuit trace lines) last c.loop-place.invariant.right)
 
 pub returns-in-Some-next_line-2 : goal.returns-in-Some-next_line-2
 returns-in-Some-next_line-2 c =
@@ -94,6 +94,6 @@ returns-in-Some-next_line-2 c =
     let cut =
     rest_cut lines (lines_of after) c.loop-place.place line
     (c.loop-place.invariant.cut ∙ first_cut c.loop-place.rest.now line after c.in-Some-next_line-2.ensures) in
-    subst (λ (n : ℕ). IsWrongLine circuit lines (n + 1)) (sym c.line_count.ensures)
-    (is_too_long circuit trace lines line (ap (λ (n : ℕ). slice_get lines n) (sym last) ∙ cut.first)
-    (subst (AreRight circuit trace lines) last c.loop-place.invariant.right))
+    subst (λ (n : ℕ). IsWrongLine c.args.extent circuit lines (n + 1)) (sym c.line_count.ensures)
+    (is_too_long c.args.extent circuit trace lines line (ap (λ (n : ℕ). slice_get lines n) (sym last) ∙ cut.first)
+    (subst (AreRight c.args.extent circuit trace lines) last c.loop-place.invariant.right))

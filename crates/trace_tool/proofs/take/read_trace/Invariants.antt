@@ -7,6 +7,6 @@ use Rattle.trace_tool.proofs.take.read_trace.Given as goal
 abbrev pub invariant-loop-place : goal.invariant-loop-place
 invariant-loop-place l = record {
   long : AreLong l.c l.trace;
-  right : AreRight l.c l.trace (lines_of l.lines) l.place;
+  right : AreRight l.extent l.c l.trace (lines_of l.lines) l.place;
   cut : drop l.place (lines_of l.lines) ≡ lines_of l.rest;
 }
