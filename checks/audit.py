@@ -8,12 +8,14 @@
     checks/audit.py --check  compares them with what is there; ends with 1 where they differ
 
 It begins with the names in the two clauses of `answer_to`, the program's call, that are the
-theorem, and in all clauses of `tool_main`, and follows each name to its definition in a file of
-specs/, and from there the names in that definition, to the end. A type of the source (`declared`)
-is its lines in src/, with the contract's view of it (`impl Model`), and is followed through the
-types of its fields; a trait is followed through its clauses. A variable that has the name of a
-definition counts as that definition, so a line may be listed that is not needed. A name that is
-imported and not found ends the script. The kit's library (`Rattle.std`) is not followed.
+theorem, and in all clauses of `tool_main`, with the parameters that these speak of, and follows
+each name to its definition in a file of specs/, and from there the names in that definition, to
+the end. A type of the source (`declared`) is its lines in src/, with the contract's view of it
+(`impl Model`), and is followed through the types of its fields, but of an enum only through those
+of the variants that some definition names; a trait is followed through its clauses. A variable
+that has the name of a definition counts as that definition, so a line may be listed that is not
+needed. A name that is imported and not found ends the script. The kit's library (`Rattle.std`) is
+not followed.
 """
 import os
 import re
@@ -45,6 +47,9 @@ STEPS = (
     )),
 )
 
+# the part with what is left of the theorem
+LAST_OF_THEOREM = "The theorem as it stands: words, devices, the record"
+
 WORD = r"[^\W\d][\w']*"
 STRING = re.compile(r'"(?:[^"\\]|\\.)*"')
 IMPORT = re.compile(r"^(?:pub )?use +(Rattle\.[\w.]+?)(?:\.\{([^}]*)\}| as (\w+))?$")
@@ -63,7 +68,8 @@ class Block:
 
     def __init__(self, module, name, first):
         self.module, self.name, self.lines, self.text = module, name, {first}, []
-        self.is_enum = False
+        # of an enum the text of each variant, which is not in the text of the block
+        self.is_enum, self.variants = False, {}
 
 
 class Module:
@@ -151,12 +157,14 @@ def source(path):
             name = (item or view).group(1)
             current = module.blocks.setdefault(name, Block(module, name, number))
             current.is_enum = item is not None and " enum " in f" {line}"
+            part = current.text
         if current and line:
             current.lines.add(number)
-            # the name of a variant is no type
-            inner = re.sub(r"^    \w+", "", line) if current.is_enum else line
-            if not line.lstrip().startswith("ghost use"):
-                current.text.append(inner)
+            variant = re.match(r"    (\w+)(.*)", line) if current.is_enum else None
+            if variant:
+                part = current.variants[variant.group(1)] = [variant.group(2)]
+            elif not line.lstrip().startswith("ghost use"):
+                part.append(line)
         if current and (line.startswith("}") or line.endswith(";") and not line.startswith(" ")):
             current = None
     return module
@@ -207,24 +215,46 @@ def resolve(target, name, module):
     sys.exit(f"audit: {module.path} names {target}.{name}, which is not found")
 
 
-def named(block):
-    """The blocks that a block names."""
-    module, text = block.module, " ".join(block.text)
+def with_variants(block, words):
+    """A block, and if it is an enum what the variants hold that are among the words."""
+    yield block
+    for word in words if block else ():
+        yield from named_in(block.module, " ".join(block.variants.get(word, ())))
+
+
+def named_in(module, text):
+    """The blocks that a text of a file names."""
     for found in re.finditer(rf"(?<![\w.'])({WORD})((?:\.{WORD})*)", text):
         word, after = found.group(1), found.group(2).split(".")[1:]
         if word in module.aliases and after:
-            yield resolve(module.aliases[word], after[0], module)
+            yield from with_variants(resolve(module.aliases[word], after[0], module), after)
         elif word in module.names:
-            yield resolve(*module.names[word], module)
+            target, name = module.names[word]
+            yield from with_variants(resolve(target, name, module), [name] + after)
         elif word in module.blocks:
-            yield module.blocks[word]
+            yield from with_variants(module.blocks[word], after)
     for name, target in module.names.items():
         if "◌" in name and all(part in text for part in name.split("◌") if part):
             yield resolve(*target, module)
 
 
+def named(block):
+    """The blocks that a block names."""
+    return named_in(block.module, " ".join(block.text))
+
+
+def spoken_of(head, clauses):
+    """What of a call's head its clauses speak of: types and parameters by their names, and what it gives."""
+    words = set(re.findall(WORD, clauses))
+    for name, of in re.findall(rf"({WORD}): ([^,>)]+|[^,)]+)[,>)]", head):
+        if name in words:
+            yield of
+    if "result" in words:
+        yield head.rpartition("->")[2]
+
+
 def contract(function, clauses=()):
-    """The contract of a function as a block: its head, and the clauses of these names, or all."""
+    """The contract of a function as a block: the clauses of these names, or all, and what they speak of."""
     path, name = function
     module = source(path)
     lines = [plain(line, "//") for line in read(path)]
@@ -235,7 +265,7 @@ def contract(function, clauses=()):
     if not kept:
         sys.exit(f"audit: {name} has no clause {' '.join(clauses)}")
     block = Block(module, name, first + 1)
-    block.text = [head] + kept
+    block.text = [*spoken_of(head, " ".join(kept)), *kept]
     return block
 
 
@@ -282,21 +312,29 @@ def steps():
     seen = set()
     for title, names in STEPS:
         yield title, by_names(names, seen)
-    yield "The theorem as it stands: words, devices, the record", by_clauses(PROGRAM, THEOREM, seen)
+    yield LAST_OF_THEOREM, by_clauses(PROGRAM, THEOREM, seen)
     yield "The other clauses of tool_main: answers, reports", by_clauses(MAIN_CALL, (), seen)
 
 
+def sum_line(files, what):
+    """How many lines and files these are, apart those of definitions and those of types of the source."""
+    types = [files[path] for path in files if path.endswith(".rt")]
+    specs = [files[path] for path in files if not path.endswith(".rt")]
+    return f"{sum(specs):>5}  lines in {len(specs)} files of specs/, and {sum(types)} in {len(types)} of src/: {what}"
+
+
 def table():
-    """For each part its files, with how many lines of them it reaches."""
-    rows, files, count = [], set(), 0
+    """For each part its files, with how many lines of them it reaches; and the sums."""
+    rows, files = [], {}
     for title, blocks in steps():
-        part = by_file(blocks)
-        lines = sum(map(len, part.values()))
-        rows += ["", f"{lines:>5}  {title}"] if rows else [f"{lines:>5}  {title}"]
-        rows += [f"{len(part[path]):>9}  {path.removeprefix('crates/')}" for path in part]
-        files |= set(part)
-        count += lines
-    return rows + ["", f"{count:>5}  lines in {len(files)} files"]
+        part = {path: len(lines) for path, lines in by_file(blocks).items()}
+        rows += ["", f"{sum(part.values()):>5}  {title}"] if rows else [f"{sum(part.values()):>5}  {title}"]
+        rows += [f"{part[path]:>9}  {path.removeprefix('crates/')}" for path in part]
+        for path in part:
+            files[path] = files.get(path, 0) + part[path]
+        if title == LAST_OF_THEOREM:
+            rows += ["", sum_line(files, "the theorem")]
+    return rows + ["", sum_line(files, "all")]
 
 
 def page_parts():

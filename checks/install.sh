@@ -94,7 +94,7 @@ if ! passed_over groff; then
     tr -s ' \n' '  ' <"$work/out" | sed 's/- //g' >"$work/page"
     for text in 'verify [waves|faults] [rounds=N] [FILE ..]' 'bench N' 'install PREFIX' '--unproved' \
         '20 The arguments are unavailable' '23 scald install cannot write' \
-        'The statuses of run, vcd and judge:' '11 The run would have more than 4,000,000 bits' 'WAVE net SKEW s v:w v:w ..' \
+        'The statuses of run, vcd and judge:' '11 The run would exceed 4,000,000 bits' 'WAVE net SKEW s v:w v:w ..' \
         'FAULT WIDTH w1<0> LOW FROM 150 WIDTH 350' "$prefix/share/vim/vimfiles" \
         'c1 : SETUP_HOLD_CHK {SETUP=20, HOLD=10} ("CK .P2-3", "D .S1-4");' 'WAVE D<0> SKEW 0 C:51 S:149 C:200'; do
         has 'the manual' "$work/page" "$text"

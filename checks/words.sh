@@ -1,7 +1,8 @@
 #!/bin/sh
 # Counts the words of each document against its limit, and of all of them together, and looks whether each file that a
-# document links, or names in backquotes by its path, is there; and whether CONTRIBUTING.md has every crate. A document
-# without a limit is a failure.
+# document links, or names in backquotes by its path, is there; whether CONTRIBUTING.md has every crate; and whether the
+# numbers of crates, lines and wrong edits that documents give are those of the sources. A document without a limit is a
+# failure.
 # Usage: checks/words.sh
 . "$(dirname -- "$0")/common.sh"
 cd "$top" || exit 2
@@ -62,5 +63,28 @@ for crate in $(sed -n 's/^\([a-z_0-9]*\):.*/\1/p' crates.txt); do
     trying "$crate"
     grep -q "^|.*\`$crate\`" CONTRIBUTING.md || failure "CONTRIBUTING.md: no crate $crate in the table"
 done
+
+# says DOCUMENT TEXT: the document has this text, on one line
+says() {
+    trying "$2"
+    grep -q -- "$2" "$1" || failure "$1: it does not say '$2'"
+}
+crates=$(grep -c '^[a-z_0-9]*:' crates.txt)
+says README.md "$crates crates;"
+timed=$(grep -o '^| `.* |$' CONTRIBUTING.md | grep '[0-9][.][0-9]' | grep -o '`[a-z_]*`' | wc -l)
+says CONTRIBUTING.md "^$((crates - timed)) smaller ones"
+says docs/ASSURANCE.md "tries $(find checks/mutants -name '*.edit' | wc -l) more by hand"
+says docs/ASSURANCE.md "what $(lines checks/mutants/last) came to"
+
+# Lines without blank ones, in thousands: README.md may be off by 3 of a hundred.
+written=$(find crates/*/src -name '*.rt' -exec cat {} + | grep -c '[^ ]')
+defined=$(find crates/*/specs -name '*.antt' -exec cat {} + | grep -c '[^ ]')
+proved=$(find crates/*/proofs -name '*.antt' -exec cat {} + | grep -c '[^ ]')
+sizes=$(grep -o '[0-9,]* lines of code and contracts, [0-9,]* of definitions, [0-9,]* of proofs' README.md |
+    sed 's/,\([0-9]\)/\1/g; s/[^0-9 ]//g')
+trying 'the size of the whole'
+echo "$sizes $written $defined $proved" |
+    awk '{ for (i = 1; i <= 3; i++) if ($i < $(i + 3) * 0.97 || $i > $(i + 3) * 1.03) exit 1; exit NF != 6 }' ||
+    failure "README.md: the size is '$sizes', and there are $written, $defined and $proved lines"
 
 ended

@@ -9,7 +9,7 @@ def options_of(language):
 def bash_case(command):
     """What may follow one word."""
     offers = []
-    if command.choices or command.settings:
+    if command.choices or command.fronts:
         words = " ".join(command.choices + command.fronts)
         offers.append(f"COMPREPLY=($(compgen -W '{words}' -- \"$word\"))")
         offers.append('[[ ${COMPREPLY[0]-} == *= ]] && compopt -o nospace 2>/dev/null')
@@ -74,7 +74,7 @@ def zsh_case(command):
     offers = []
     if command.choices:
         offers.append(f"compadd -- {' '.join(command.choices)}")
-    if command.settings:
+    if command.fronts:
         offers.append(f"compadd -S '' -- {' '.join(command.fronts)}")
     if command.takes == "FILES":
         offers.append("_files -g '*.scald'")

@@ -22,26 +22,29 @@ class Command(NamedTuple):
     """A word that `scald` takes, and what may stand after it."""
 
     word: str
-    choices: tuple  # words of which one may come
-    settings: tuple  # what may come as NAME=N
     numbers: tuple  # what has to come first, each by its letter or name
+    optional: tuple  # what may come then, each a word or a choice with `|` between
     takes: str  # FILES, NETLISTS, JOINED for files that are one text, PREFIX or nothing
     says: str
 
     @property
     def form(self):
         """How it is asked for, without options."""
-        parts = [self.word, *self.numbers]
-        parts += [f"[{'|'.join(self.choices)}]"] if self.choices else []
-        parts += [f"[{setting}]" for setting in self.settings]
+        parts = [self.word, *self.numbers, *(f"[{part}]" for part in self.optional)]
         named = {"FILES": "[FILE ..]", "NETLISTS": "[NETLIST ..]", "JOINED": "[TRACE DRAWING]"}
         parts += [named.get(self.takes, self.takes)] if self.takes else []
         return " ".join(parts)
 
     @property
+    def choices(self):
+        """The words that may come as they are."""
+        said = (word for part in self.optional for word in part.split("|"))
+        return tuple(word for word in said if word.islower() and "=" not in word)
+
+    @property
     def fronts(self):
         """The fronts `NAME=` of what may come as NAME=N."""
-        said = (*self.numbers, *self.settings)
+        said = (*self.numbers, *(word for part in self.optional for word in part.split("|")))
         return tuple(word[: word.index("=") + 1] for word in said if "=" in word)
 
 
@@ -124,13 +127,11 @@ def taking_files(words, commands):
 
 def command_of(forms, says, with_files):
     form = spelled(forms)[0].split()
-    optional = [part[1:-1] for part in form[1:] if part.startswith("[")]
     rest = [part for part in form[1:] if not part.startswith("[")]
     return Command(
         word=form[0],
-        choices=tuple(word for part in optional if "=" not in part for word in part.split("|")),
-        settings=tuple(part for part in optional if "=" in part),
         numbers=tuple(part for part in rest if part != "PREFIX"),
+        optional=tuple(part[1:-1] for part in form[1:] if part.startswith("[")),
         takes="PREFIX" if "PREFIX" in rest else with_files.get(form[0], ""),
         says=says,
     )
