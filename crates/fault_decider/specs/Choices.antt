@@ -26,7 +26,7 @@ use Rattle.listing.specs.Text.{line}
 use Rattle.trace_tool.specs.declared.trace.Trace.{Trace}
 use Rattle.trace_tool.specs.Trace.{pick_at, row_at, wires_at}
 
--- a number within bounds, where they are more than one number
+-- a number within bounds, if they are more than one number
 abbrev pub bound_line : List (List ℕ) → ℕ → Bounds → List ℕ
 bound_line front n b =
     if b.min == b.max then []

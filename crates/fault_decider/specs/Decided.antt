@@ -154,7 +154,7 @@ pub data Decided (r : Request) (text : List ℕ) : DecideOutcome → List ℕ �
       Concluded draws.drawing.version c base cases r.trace o bytes → Decided r text o bytes
 
 -- What the words ask for, and what is answered to a text. Which verdict a fault has is left open
--- where more than one would do, so all replies that speak of the text count as one.
+-- if more than one would do, so all replies that speak of the text count as one.
 abbrev pub decider : Meaning Request DecideOutcome
 decider = record {
   command_of = request_of;

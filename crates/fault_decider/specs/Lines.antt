@@ -81,7 +81,7 @@ joined between f (x ∷ xs) = f x ++ flat_map (λ y. between ++ f y) xs
 abbrev pub leaf_text : Circuit → List Part → List ℕ
 leaf_text c parts = joined (codes " & ") (part_text c) parts
 
--- at most eight narrowings of nets alone are told one by one
+-- at most eight narrowings of nets alone are listed one by one
 abbrev pub are_told : List (List Part) → Bool
 are_told leaves = nat_le (length leaves) 8 && list_all (list_all is_of_net) leaves
 

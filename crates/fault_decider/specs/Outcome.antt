@@ -14,7 +14,7 @@ status_of (Refused r) = 2
 status_of (Unsettled place round) = 3
 status_of (Ended end) = outcome_status (ended end)
 
--- the end that an outcome is of, where it says nothing of the text
+-- the end that an outcome is of, if it says nothing of the text
 abbrev pub end_of : DecideOutcome → Option CallEnd
 end_of Settled = None
 end_of Faulty = None

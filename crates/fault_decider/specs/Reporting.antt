@@ -64,7 +64,7 @@ pub record IsReport (version : ℕ) (c : Circuit) (base : ℕ) (answer : Answer)
 
 -- ---- the trace of one fault
 
--- what a verdict adds where its fault is wanted: the trace of the run that shows it, if one does
+-- what a verdict adds if its fault is wanted: the trace of the run that shows it, if one does
 abbrev pub TraceAdded : Circuit → Verdict → Answer → Answer → Type 0
 TraceAdded c (Shown s) old new =
     (new.is_traced ≡ true) × (new.bytes ≡ old.bytes ++ trace_text c s.trace)
@@ -73,7 +73,7 @@ TraceAdded c (Refuted from leaves) old new =
 TraceAdded c (Window from) old new = (new.is_traced ≡ old.is_traced) × (new.bytes ≡ old.bytes)
 TraceAdded c Open old new = (new.is_traced ≡ old.is_traced) × (new.bytes ≡ old.bytes)
 
--- Among these faults the one with the number i, where so many came before them all, is shown by a
+-- Among these faults the one with the number i, if so many came before them all, is shown by a
 -- run whose trace stands at the end; or none is, and nothing came in.
 pub data HasSought (c : Circuit) (values : List CaseValue) (printed : ℕ) (fs : List Fault) (i : ℕ)
     (old new : Answer) : Type 0 where

@@ -32,7 +32,7 @@ abbrev pub with_trace : ℕ → ℕ → Option ℕ → List (List ℕ) → Resul
 with_trace effort place None others = Err place
 with_trace effort place (Some i) others = alone (request effort (Some i)) (place + 1) others
 
--- the words from this number on, where the effort is known
+-- the words from this number on, if the effort is known
 abbrev pub after_effort : ℕ → ℕ → List (List ℕ) → Result Request ℕ
 after_effort effort place [] = Ok (request effort None)
 after_effort effort place (w ∷ ws) = with_trace effort place (trace_of w) ws

@@ -64,7 +64,7 @@ impl Counts {
 pub struct Answer {
     pub bytes: Bytes,
     pub counts: Counts,
-    /// How many faults were passed, where a trace is wanted.
+    /// How many faults were passed, if a trace is wanted.
     pub faults: u32,
     /// The trace that was wanted is written.
     pub is_traced: bool,

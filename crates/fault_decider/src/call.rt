@@ -16,7 +16,7 @@ use std::alloc::Global;
 /// multiplies the budget; with `trace=I` the run of the I-th fault is written as a trace in place
 /// of all that.
 ///
-/// `Settled` comes where no fault is shown or left open: a drawing whose faults are all refuted is
+/// `Settled` comes if no fault is shown or left open: a drawing whose faults are all refuted is
 /// as good as one without faults. Why a drawing is refused, or which net does not settle, is
 /// written as `verify` has it. All of the answer is made before the first byte of it is written.
 pub fn decide_main<S: Source, K: Sink>(

@@ -50,7 +50,7 @@ fn limits_of(c: &Circuit, x: Constraint) -> u64 {
 }
 
 /// How many ticks a run has in which a break is looked for: some periods from the printed tick on,
-/// as far as the bits of a trace allow. None where they allow no tick from there on.
+/// as far as the bits of a trace allow. None if they allow no tick from there on.
 fn ticks_for(c: &Circuit, x: Constraint, printed: u64) -> Option<u16> {
     let nets = max(u64::from(c.net_count()), 1);
     let most = min(MOST_TICKS, MOST_BITS / nets);

@@ -14,7 +14,7 @@ use narrowing::is_set;
 use scald_base::{AssertSpec, Bytes, NoMemory};
 use trace_tool::Trace;
 
-/// Whether a net of this assertion is constant where nothing drives it, and the case may set it.
+/// Whether a net of this assertion is constant if nothing drives it, and the case may set it.
 fn is_constant_by(spec: &AssertSpec, set: bool) -> bool
     ensures { result ≡ constant_by set spec.now }
 {

@@ -9,7 +9,7 @@ use listing::{Piece, add_line, add_pieces, net_piece};
 use narrowing::{Part, Parts};
 use scald_base::{Bytes, NoMemory};
 
-/// The most narrowings that are told one by one.
+/// The most narrowings that are listed one by one.
 const MOST_TOLD: usize = 8;
 
 /// Whether all parts are of nets.
@@ -24,7 +24,7 @@ fn are_of_nets(parts: &[Part]) -> bool
     true
 }
 
-/// Whether the narrowings are told one by one.
+/// Whether the narrowings are listed one by one.
 fn are_told(leaves: &[Parts]) -> bool
     ensures { result ≡ told_singly leaves.now }
 {

@@ -1,10 +1,10 @@
-//! Each fault of a drawing shown by a run in which its constraint is broken, or refuted by parts
-//! that all runs make together, none of which has the fault.
+//! Each fault of a drawing shown by a run in which its constraint is broken, or refuted: by parts
+//! that all runs make together, none of which has the fault, or by clauses of short runs.
 //!
 //! The program calls [`decide_main`], the main call of `program_call` for [`Decider`].
 //! `specs/Verdict` says what is promised of a fault, `specs/Lines` what is written of it, and
-//! `specs/Decided` what is replied to a text. A run is searched for by `run_search`, and
-//! judged here; a refutation is the tree that `narrowing` finds.
+//! `specs/Decided` what is replied to a text. A run is searched for by `run_search`, and judged
+//! here; a refutation is the tree that `narrowing` finds, or `run_clauses` gives it.
 #![tactic(auto)]
 
 // one fault

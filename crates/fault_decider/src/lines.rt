@@ -20,7 +20,7 @@ use narrowing::{Constraint, Named, Through, cone_behind, nets_of};
 use scald_base::{Bytes, NoMemory};
 use std::alloc::Global;
 
-/// A line of two texts, each with a tick behind it.
+/// A line of two texts, each with a tick after it.
 fn add_two<'x>(
     out: &mut Bytes,
     front: &'x [u8],

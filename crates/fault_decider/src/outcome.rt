@@ -25,8 +25,8 @@ pub enum DecideOutcome {
     Ended(CallEnd),
 }
 
-/// The status that the program ends with: 0 where nothing is left to fear or a trace is written, 1
-/// where something is, 2 to 8 as of `verify`, and 10 where there is no run to write.
+/// The status that the program ends with: 0 if nothing is left to fear or a trace is written, 1
+/// if something is, 2 to 8 as of `verify`, and 10 if there is no run to write.
 pub fn decide_status(outcome: &DecideOutcome) -> u8
     ensures { result ≡ status_of outcome.now }
 {

@@ -55,7 +55,7 @@ fn unsettled(
     })
 }
 
-/// The answer where a circuit or a case of it does not settle.
+/// The answer if a circuit or a case of it does not settle.
 fn ended(alloc: Global, c: &Circuit, end: EngineEnd) -> Result<Reply<DecideOutcome>, NoMemory>
     requires { (place round : ℕ) → end ≡ EngineEnd.Unsettled place round →
         place < length c.now.order }

@@ -55,7 +55,7 @@ fn trace_of(word: &[u8]) -> Option<u32>
     }
 }
 
-/// The request, where no word follows those that make it. Such a word would have this number.
+/// The request, if no word follows those that make it. Such a word would have this number.
 fn alone(request: Request, place: u32, others: &[Bytes]) -> Result<Request, u32>
     requires { IsWithin request }
     ensures is { result ≡ alone request place others.now }
@@ -68,7 +68,7 @@ fn alone(request: Request, place: u32, others: &[Bytes]) -> Result<Request, u32>
     }
 }
 
-/// What is asked for by the words from this number on, where the effort is known.
+/// What is asked for by the words from this number on, if the effort is known.
 fn after_effort(effort: u32, place: u32, words: &[Bytes]) -> Result<Request, u32>
     requires effort { (1 ≤ effort) × (effort ≤ 1000) }
     requires place { place ≤ 2 }

@@ -41,7 +41,7 @@ pub record KeepsFree (c : Circuit) (values : List CaseValue) (x : Constraint) (t
   pub keeps : KeepsFaultless c values faults tick
   pub free : list_any (is_of x) faults ≡ false
 
--- What a free leaf says of the only case of a circuit, or of its base where no net is set.
+-- What a free leaf says of the only case of a circuit, or of its base if no net is set.
 pub record IsSaid (c : Circuit) (values : List CaseValue) (x : Constraint) (tick : ℕ) : Type 0 where
   pub free : IsFree c values x tick
   pub keeps : KeepsFree c values x tick

@@ -157,7 +157,7 @@ constants (Offset net least greatest ∷ ps) = constants ps
 abbrev pub narrowed_values : List CaseValue → List Part → List CaseValue
 narrowed_values values parts = values ++ constants parts
 
--- as the only case, or no case where no net is set
+-- as the only case, or no case if no net is set
 abbrev pub only_case : List CaseValue → List (List CaseValue)
 only_case [] = []
 only_case (v ∷ vs) = (v ∷ vs) ∷ []

@@ -62,7 +62,7 @@ pub record AreBits (c : Circuit) (values : List CaseValue) (parts : List Part)
   pub then_one : next ≡ true
 
 -- A narrowing is split at one thing: into the two bits of a net, or into the two halves of the
--- bounds that it gives a delay or an offset, the circuit's own where it gives none.
+-- bounds that it gives a delay or an offset, the circuit's own if it gives none.
 abbrev pub IsSplit : Circuit → List CaseValue → List Part → Part → Part → Type 0
 IsSplit c values parts (Constant net one) (Constant other next) =
     AreBits c values parts net other one next
@@ -89,7 +89,7 @@ leaves leaf parts = parts ∷ []
 leaves (split lower upper low high) parts =
     leaves low (with_part parts lower) ++ leaves high (with_part parts upper)
 
--- A tree is over a narrowing of a case where each inner node is split at one thing, and the halves
+-- A tree is over a narrowing of a case if each inner node is split at one thing, and the halves
 -- are parts of the circuit.
 abbrev pub IsOver : Circuit → List CaseValue → Tree → List Part → Type 0
 IsOver c values leaf parts = ⊤

@@ -22,7 +22,7 @@ use std::alloc::Global;
 /// A place that stands in no text: nothing is refused of a narrowed circuit.
 const NOWHERE: Place = Place { line: 0, col: 0 };
 
-/// What was made, or nothing where it is refused.
+/// What was made, or nothing if it is refused.
 fn unless_refused<T: Drop>(made: Result<T, Stop>) -> Result<Option<T>, NoMemory>
     ensures { IfOk result (λ found. IfSome found (λ value. made ≡ Ok value)) }
 {
@@ -134,8 +134,8 @@ fn add_instances(
     Ok(true)
 }
 
-/// The circuit with the bounds of the parts in place of its own; or `None` where a part is of
-/// delays or of a clock that the circuit has not, or a clock is not moved. Where memory runs out,
+/// The circuit with the bounds of the parts in place of its own; or `None` if a part is of
+/// delays or of a clock that the circuit has not, or a clock is not moved. If memory runs out,
 /// `NoMemory`.
 #[tactic(auto, using(crate::proofs::Building::same_circuit))]
 pub fn narrow(alloc: Global, c: &Circuit, parts: &[Part]) -> Result<Option<Circuit>, NoMemory>

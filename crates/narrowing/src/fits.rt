@@ -11,7 +11,7 @@ use element_kinds::{Form, Kind};
 use flat_circuit::{CaseValue, Circuit};
 use scald_base::{AssertSpec, Delay};
 
-/// Whether a net of this assertion is constant where nothing drives it.
+/// Whether a net of this assertion is constant if nothing drives it.
 fn is_constant_by(spec: &AssertSpec) -> bool
     ensures { IsTrue result → IsConstantBy spec.now }
 {

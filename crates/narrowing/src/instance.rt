@@ -125,7 +125,7 @@ fn set_fall(i: &mut Instance, least: u16, greatest: u16) -> bool
     true
 }
 
-/// Narrows instance k by a part, if the part is of it; `false` where its delays are not those that
+/// Narrows instance k by a part, if the part is of it; `false` if its delays are not those that
 /// the part is of.
 fn narrow_by(i: &mut Instance, k: u32, part: Part) -> bool
     ensures is { IsTrue result → i.new ≡ by_part k i.old part }
@@ -171,7 +171,7 @@ fn narrow_by(i: &mut Instance, k: u32, part: Part) -> bool
     }
 }
 
-/// Instance k with the bounds of the parts that are of it, or `None` where a part is of delays that
+/// Instance k with the bounds of the parts that are of it, or `None` if a part is of delays that
 /// it has not.
 pub fn narrowed_instance(
     alloc: Global,

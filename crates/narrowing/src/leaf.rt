@@ -56,7 +56,7 @@ fn narrowed_values(alloc: Global, values: &[CaseValue], parts: &[Part]) -> Resul
     Ok(case)
 }
 
-/// The case as the only one, or none where it sets nothing.
+/// The case as the only one, or none if it sets nothing.
 fn only_case(alloc: Global, case: Case) -> Result<CaseList, NoMemory>
     ensures { IfOk result (λ cases. cases ≡ only_case case) }
 {
@@ -123,7 +123,7 @@ fn said_by(
     }
 }
 
-/// What a settled base says, where no case is listed.
+/// What a settled base says, if no case is listed.
 fn said_by_base(
     alloc: Global,
     subject: &Subject,
@@ -164,7 +164,7 @@ fn said_by_case(
     }
 }
 
-/// What the only case of a subject says, or its base where it has none.
+/// What the only case of a subject says, or its base if it has none.
 fn evaluate_subject(alloc: Global, subject: &Subject, x: Constraint) -> Result<Leaf, NoMemory>
     requires { IsSubject subject.now }
     ensures { IfOk result (Says subject.now.circuit subject.now.cases x) }
@@ -183,7 +183,7 @@ fn evaluate_subject(alloc: Global, subject: &Subject, x: Constraint) -> Result<L
     }
 }
 
-/// What the only case of a circuit says, or its base where there is none.
+/// What the only case of a circuit says, or its base if there is none.
 fn evaluate_drawn(alloc: Global, drawn: Drawn, x: Constraint) -> Result<Leaf, NoMemory>
     requires few { length drawn.cases ≤ 256 }
     requires exist { All (NetsExist drawn.circuit) drawn.cases }

@@ -1,4 +1,4 @@
-//! Assertions in units of one tick, and clocks that are moved by ticks. `None` comes where a tick
+//! Assertions in units of one tick, and clocks that are moved by ticks. `None` comes if a tick
 //! is past the numbers of the machine, which it is in no circuit.
 
 ghost use Rattle.std.specs.Prelude.{◌≡◌, ◌+◌, ◌%◌, IfOk, IfSome};
@@ -171,7 +171,7 @@ pub fn fine_spec(
     })
 }
 
-/// The same, where a `.P` clock comes later than at its earliest by a number within bounds.
+/// The same, if a `.P` clock comes later than at its earliest by a number within bounds.
 pub fn moved_spec(
     alloc: Global,
     h: &Header,

@@ -19,7 +19,7 @@ fn own_offset(net: &Net, number: u32, parts: &[Part]) -> Option<Late>
     }
 }
 
-/// What is asserted of the net of a number in the narrowed circuit; `None` where a tick of it is
+/// What is asserted of the net of a number in the narrowed circuit; `None` if a tick of it is
 /// past the numbers of the machine.
 pub fn spec_in(
     alloc: Global,

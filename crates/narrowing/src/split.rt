@@ -15,7 +15,7 @@ use scald_base::NoMemory;
 use std::alloc::Global;
 use std::cmp::max;
 
-/// Takes a cost out of a budget; `false` where it is spent.
+/// Takes a cost out of a budget; `false` if it is spent.
 pub fn spend(budget: &mut u64, cost: u64) -> bool {
     if *budget < cost {
         *budget = 0;
@@ -49,7 +49,7 @@ pub fn half(
     with_part(alloc, parts, part)
 }
 
-/// What one half leaves open: nothing where it has no fault, and `None` where it does not settle.
+/// What one half leaves open: nothing if it has no fault, and `None` if it does not settle.
 fn doubt_in(
     alloc: Global,
     c: &Circuit,

@@ -7,7 +7,7 @@ use Rattle.scald_base.specs.Word.{longest_word}
 abbrev pub is_new : List (List ℕ) → List ℕ → Bool
 is_new taken name = not (list_any (bytes_eq name) taken)
 
--- the name, cut so that `_` and the number fit behind it
+-- the name, cut so that `_` and the number fit after it
 abbrev pub numbered : List ℕ → ℕ → List ℕ
 numbered name n = take (longest_word - length (codes "_" ++ decimal n)) name ++ codes "_"
     ++ decimal n

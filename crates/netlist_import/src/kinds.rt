@@ -21,6 +21,7 @@ use std::marker::Model;
 pub struct Kind {
     /// The name of their type.
     pub kind: Bytes,
+    /// The text of their parameters.
     pub parameters: Bytes,
     /// The ports that are not empty in some of them, in the order in which they first come.
     pub ports: KindPorts,

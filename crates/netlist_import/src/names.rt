@@ -18,7 +18,7 @@ const STEM: usize = 62;
 #[derive(Drop)]
 pub(crate) struct Names {
     taken: IndexSet<Bytes>,
-    /// For the front of a name the least number that may still be new behind it.
+    /// For the front of a name the least number that may still be new after it.
     next: IndexMap<Bytes, usize>,
 }
 
@@ -44,7 +44,7 @@ fn front(name: &[u8], most: usize) -> &[u8]
     }
 }
 
-/// A name with a number behind it, cut so that both fit.
+/// A name with a number after it, cut so that both fit.
 fn numbered(alloc: Global, wanted: &[u8], number: usize) -> Result<Bytes, NoMemory>
     ensures { IfOk result (λ name. name ≡ numbered wanted.now number) }
 {
@@ -96,7 +96,7 @@ impl Names {
         self.taken.as_slice()
     }
 
-    /// The number from which one may be new behind this front of a name.
+    /// The number from which one may be new after this front of a name.
     fn next_number(&self, stem: &Bytes) -> usize
         ensures { IsTried self.now (stem.now, result) }
     {
@@ -106,7 +106,7 @@ impl Names {
         }
     }
 
-    /// The first name with a number behind it that is new.
+    /// The first name with a number after it that is new.
     fn new_numbered(&mut self, alloc: Global, wanted: &[u8]) -> Result<Bytes, NoMemory>
         ensures name { IfOk result (λ name. name
             ≡ numbered wanted.now (least_number self.old wanted.now)) }

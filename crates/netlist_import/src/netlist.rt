@@ -32,6 +32,7 @@ pub struct Port {
     pub bits: Bits,
 }
 
+/// The ports of a module, or the connections of a cell, in their order.
 pub type Ports = List<Port>;
 
 impl Named for Port {
@@ -54,6 +55,7 @@ pub struct Cell {
     pub connections: Ports,
 }
 
+/// The cells of a module, in their order.
 pub type Cells = List<Cell>;
 
 /// Bits of a module under a name.
@@ -64,6 +66,7 @@ pub struct NetName {
     pub bits: Bits,
 }
 
+/// The names of bits of a module, in their order.
 pub type NetNames = List<NetName>;
 
 /// A module.

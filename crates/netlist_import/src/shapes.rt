@@ -23,6 +23,7 @@ pub struct Formal {
     pub width: usize,
 }
 
+/// The ports of a macro, in their order.
 pub type Formals = List<Formal>;
 
 /// A macro: what it is called, and its ports.
@@ -32,6 +33,7 @@ pub struct Shape {
     pub ports: Formals,
 }
 
+/// The macros that there are, in their order.
 pub type Shapes = List<Shape>;
 
 /// The port of a macro that a port of a module or a connection of a cell asks for.

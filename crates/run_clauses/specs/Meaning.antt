@@ -150,7 +150,7 @@ NoneStepsAt d pins u bits = (pin : ℕ) → pin < pins → bits (Step d.instance
 abbrev pub NoneSteps : Driven → ℕ → Bounds → Bits → Type 0
 NoneSteps d pins delay bits = (u : ℕ) → IsInReach delay d.tick u → NoneStepsAt d pins u bits
 
--- the output stays where no pin steps within reach
+-- the output stays if no pin steps within reach
 abbrev pub IsChange : Driven → ℕ → Bounds → Bits → Type 0
 IsChange d pins delay bits =
     HasTick d bits → NoneSteps d pins delay bits → old_of d bits ≡ out_of d bits

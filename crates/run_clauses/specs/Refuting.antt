@@ -6,17 +6,17 @@
 -- than at its earliest: with these amounts it is a world. Every clause that is made is true of it:
 --
 --   Lasts t                implies Lasts (t - 1);
---   Pin k p t              shows Net i (t - w), complemented or not, where Wire k p w; and some w
+--   Pin k p t              shows Net i (t - w), complemented or not, if Wire k p w; and some w
 --                          of the bounds of the net's wires is the wire's;
 --   Own k t                is the gate's bit of Pin k 0 t, Pin k 1 t, ..;
---   Net i t, driven by k   where Lasts t, and t is at least as far as the equation of k looks back
---                          with its greatest delays: is Own k (t - d) where Delay k d, complemented
+--   Net i t, driven by k   if Lasts t, and t is at least as far as the equation of k looks back
+--                          with its greatest delays: is Own k (t - d) if Delay k d, complemented
 --                          or not; of storage what its equation makes of its pins at t - d and of
 --                          Net i (t - 1); of a change function the same as Net i (t - 1), or Step k
 --                          p u for some pin and some u that its bounds reach; and some d of the
 --                          bounds is the delay;
---   Net i t, which nothing where Lasts t: has its bit of the case; or, by its assertion, is Net i
---   drives                 0, is Net i (t - 1) in a quiet slot, is the ideal clock where Offset i by,
+--   Net i t, which nothing if Lasts t: has its bit of the case; or, by its assertion, is Net i
+--   drives                 0, is Net i (t - 1) in a quiet slot, is the ideal clock if Offset i by,
 --                          and some by of the skew is the offset;
 --   First, Second, Beside are the ticks and the pin that the break names: some First lies in the
 --                          period from T on, some Second as near to it as the limit says, Lasts

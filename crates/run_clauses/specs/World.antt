@@ -38,7 +38,7 @@ choice_in (Some choice) = choice
 abbrev pub choice_of : World → ℕ → Choice
 choice_of w k = choice_in (slice_get w.run.choices k)
 
--- what the pins of an instance show, as signals; none where there is no such instance
+-- what the pins of an instance show, as signals; none if there is no such instance
 abbrev pub signals_in : Run → Option Instance → Choice → List Signal
 signals_in run None choice = []
 signals_in run (Some j) choice = pin_signals run j.pins choice.wires

@@ -28,7 +28,7 @@ fn marked_place(i: &Instance) -> Option<usize>
     i.pins.as_slice().iter().position(|pin| pin.hold)
 }
 
-/// That a marked gate's constraint is broken; `false` where no clauses say so.
+/// That a marked gate's constraint is broken; `false` if no clauses say so.
 fn add_marked(
     formula: &mut Formula,
     some: &mut Vec<Said>,
@@ -59,7 +59,7 @@ fn add_marked(
     Ok(true)
 }
 
-/// That a checker's constraint about edges is broken; `false` where no clauses say so.
+/// That a checker's constraint about edges is broken; `false` if no clauses say so.
 fn add_checked(
     formula: &mut Formula,
     some: &mut Vec<Said>,
@@ -88,7 +88,7 @@ fn add_checked(
     }
 }
 
-/// That an instance's constraint beside widths is broken; `false` where no clauses say so.
+/// That an instance's constraint beside widths is broken; `false` if no clauses say so.
 fn add_form(
     formula: &mut Formula,
     some: &mut Vec<Said>,
@@ -115,7 +115,7 @@ fn add_form(
     }
 }
 
-/// That the width of an instance's pulses at a level is broken; `false` where there is no such
+/// That the width of an instance's pulses at a level is broken; `false` if there is no such
 /// instance.
 fn add_width(
     formula: &mut Formula,
@@ -150,7 +150,7 @@ fn width_of(i: &Instance, high: bool) -> u32
     }
 }
 
-/// That a net's assertion is broken; `false` where there is no such net.
+/// That a net's assertion is broken; `false` if there is no such net.
 fn add_asserted(
     formula: &mut Formula,
     some: &mut Vec<Said>,
@@ -173,7 +173,7 @@ fn add_asserted(
     Ok(true)
 }
 
-/// That the constraint is broken in the world; `false` where no clauses say so.
+/// That the constraint is broken in the world; `false` if no clauses say so.
 pub fn add_break(
     formula: &mut Formula,
     some: &mut Vec<Said>,

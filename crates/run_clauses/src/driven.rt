@@ -1,4 +1,4 @@
-//! What a driven net is at a tick: by the equation of its driver, where that is asked.
+//! What a driven net is at a tick: by the equation of its driver, if that is asked.
 
 ghost use Rattle.std.specs.Prelude.{◌≡◌, ◌+◌, ◌-◌, ◌<◌, ◌≤◌, OnOk, Some, false};
 ghost use Rattle.fixpoint_engine.specs.Reach.{greatest_wire};
@@ -154,7 +154,7 @@ fn add_storage(
 const MOST_PAIRS: u32 = 64;
 
 /// What a gate with two delays gives for one pair of them: 1 exactly if the gate's bit is 1 at all
-/// ticks between them where the rise takes as long, and at some where the fall takes longer.
+/// ticks between them if the rise takes as long, and at some if the fall takes longer.
 fn add_pair(
     formula: &mut Formula,
     some: &mut Vec<Said>,
@@ -212,7 +212,7 @@ fn add_split(
     Ok(())
 }
 
-/// What is known of a driven net at a tick. Nothing is where its driver looks back past tick 0.
+/// What is known of a driven net at a tick: nothing if its driver looks back past tick 0.
 pub fn explain_driven(
     formula: &mut Formula,
     some: &mut Vec<Said>,

@@ -1,4 +1,4 @@
-//! Clauses that are true of every run of a case in which one constraint is broken, so that where
+//! Clauses that are true of every run of a case in which one constraint is broken, so that if
 //! they are refuted there is no such run.
 //!
 //! The layer above calls [`refute_window`]. `specs/World` says what the facts of clauses say of a

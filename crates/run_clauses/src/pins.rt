@@ -21,6 +21,7 @@ pub struct At {
 }
 
 impl At {
+    /// That the pin shows 1 at the tick.
     pub fn shows(self) -> Fact
         ensures { result ≡ Fact.Pin self.instance self.pin self.tick }
     {

@@ -10,7 +10,7 @@ use crate::fact::{Fact, Said};
 use crate::formula::Formula;
 use scald_base::NoMemory;
 
-/// The output of storage at a tick, where its delay is one number.
+/// The output of storage at a tick, if its delay is one number.
 #[derive(Clone, Copy, Debug)]
 pub struct Storage {
     pub net: Driven,
@@ -123,7 +123,7 @@ fn add_forced(formula: &mut Formula, storage: Storage) -> Result<(), NoMemory>
     Ok(())
 }
 
-/// The same where there are a set and a reset.
+/// The same if there are a set and a reset.
 fn add_set_and_reset(formula: &mut Formula, storage: Storage) -> Result<(), NoMemory>
     requires { storage.forced ≡ true }
     ensures { OnOk result (Adds (IsSetOrReset storage) formula.old formula.new) }
@@ -147,7 +147,7 @@ fn add_set_and_reset(formula: &mut Formula, storage: Storage) -> Result<(), NoMe
     ])
 }
 
-/// What a register gives: its input where its clock rises, else what it gave.
+/// What a register gives: its input if its clock rises, else what it gave.
 fn add_register(formula: &mut Formula, storage: Storage) -> Result<(), NoMemory>
     ensures { OnOk result (Adds (IsRegister storage) formula.old formula.new) }
 {
@@ -159,7 +159,7 @@ fn add_register(formula: &mut Formula, storage: Storage) -> Result<(), NoMemory>
     add_forced(formula, storage)
 }
 
-/// What a latch gives: its input where it is enabled, else what it gave.
+/// What a latch gives: its input if it is enabled, else what it gave.
 fn add_latch(formula: &mut Formula, storage: Storage) -> Result<(), NoMemory>
     ensures { OnOk result (Adds (IsLatch storage) formula.old formula.new) }
 {

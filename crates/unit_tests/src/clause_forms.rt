@@ -27,6 +27,7 @@ pub fn push(alloc: Global, clauses: &mut Clauses, written: &[i32]) -> Result<(),
     clauses.push(&clause)
 }
 
+/// The clauses that are written so.
 pub fn clauses_of(alloc: Global, written: &[Written]) -> Result<Clauses, NoMemory> {
     let mut clauses = Clauses::new(alloc);
     for clause in written {
@@ -35,6 +36,7 @@ pub fn clauses_of(alloc: Global, written: &[Written]) -> Result<Clauses, NoMemor
     Ok(clauses)
 }
 
+/// The steps that are written so.
 pub fn steps_of(alloc: Global, written: &[WrittenStep]) -> Result<Steps, NoMemory> {
     let mut steps = Steps::new(alloc);
     for (lemma, hints) in written {

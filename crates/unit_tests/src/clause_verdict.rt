@@ -5,6 +5,7 @@ use clause_search::{Answer, search};
 use scald_base::NoMemory;
 use std::alloc::Global;
 
+/// What an answer is worth.
 #[derive(Clone, Copy, PartialEq, Eq, Debug)]
 pub enum Verdict {
     /// An assignment that makes every clause hold.
@@ -13,6 +14,7 @@ pub enum Verdict {
     Refuted,
     /// Another assignment, or other steps.
     Wrong,
+    /// Nothing was found within the budget.
     OutOfBudget,
 }
 
