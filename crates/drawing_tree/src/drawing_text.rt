@@ -156,12 +156,15 @@ impl Printed for CaseStmt {
     }
 }
 
-/// Puts the macros at the end.
+/// Puts the lines of the constants and then the macros at the end.
 #[tactic(auto, using(crate::proofs::Joined::each_map))]
-fn add_macros(alloc: Global, out: &mut Bytes, macros: &[MacroDef]) -> Result<(), NoMemory>
-    ensures { OnOk result (out.new ≡ out.old ++ flat_map macro_lines (map macro_of macros.now)) }
+fn add_declared(alloc: Global, out: &mut Bytes, d: &Drawing) -> Result<(), NoMemory>
+    ensures { OnOk result (out.new ≡ out.old
+        ++ flat_map constant_line (map assignment_of d.now.consts)
+        ++ flat_map macro_lines (map macro_of d.now.macros)) }
 {
-    add_each(alloc, out, macros)
+    add_constants(out, d.consts.as_slice())?;
+    add_each(alloc, out, d.macros.as_slice())
 }
 
 /// Puts the line that begins the drawing itself at the end.
@@ -180,8 +183,7 @@ pub fn print_drawing(alloc: Global, d: &Drawing) -> Result<Bytes, NoMemory>
 {
     let mut out = Bytes::new(alloc);
     add_header(&mut out, d.version, &d.header)?;
-    add_constants(&mut out, d.consts.as_slice())?;
-    add_macros(alloc, &mut out, d.macros.as_slice())?;
+    add_declared(alloc, &mut out, d)?;
     add_title(&mut out, d.name.as_slice())?;
     add_body(alloc, &mut out, d.body.as_slice())?;
     add_each(alloc, &mut out, d.cases.as_slice())?;

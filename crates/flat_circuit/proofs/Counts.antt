@@ -1,5 +1,6 @@
 -- How many instances there are, and what a builder holds after each call.
 use Rattle.std.proofs.Common.{◌≡◌, ℕ, ◌+◌, ◌<◌, ◌≤◌, Bool, true, false, cond, not, ◌&&◌, ◌||◌, nat_le, nat_lt, List, [], ◌∷◌, ◌++◌, length, refl, ap, ◌∙◌, arith}
+use mir.Val.{bool_byte}
 use Rattle.std.specs.Prelude.{count_by, Option, Some, None}
 use Rattle.std.proofs.lemmas.Bool.Decides.{nat_tests}
 use Rattle.std.proofs.lemmas.List.{length_push}
@@ -19,6 +20,11 @@ use Rattle.flat_circuit.proofs.Tables.{distinct_push}
 
 abbrev pub of_bool : Bool → ℕ
 of_bool b = cond b 1 0
+
+-- what a test counts for
+pub byte_is : (b : Bool) → bool_byte b ≡ of_bool b
+byte_is true = refl
+byte_is false = refl
 
 count_push : (p : Instance → Bool) (js : List Instance) (j : Instance) → count_by p (js ++ j ∷ []) ≡ count_by p js + of_bool (p j)
 count_push p js j = sum_by-append (λ (x : Instance). cond (p x) 1 0) js (j ∷ []) ∙ omega arith

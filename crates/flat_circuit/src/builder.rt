@@ -226,8 +226,8 @@ impl Builder {
         let has_output = instance.kind.has_output();
         let pins = instance.pins.len() as u32;
         self.instances.push(instance)?;
-        self.outputs += one_if(has_output);
-        self.checkers += one_if(!has_output);
+        self.outputs += u32::from(has_output);
+        self.checkers += u32::from(!has_output);
         self.pins += pins;
         Ok(number)
     }
@@ -243,12 +243,6 @@ impl Builder {
         };
         (alike as usize) < MOST_BITS && instance.pins.len() <= MOST_PINS - self.pins as usize
     }
-}
-
-fn one_if(counts: bool) -> u32
-    ensures { result ≡ (if counts then 1 else 0) }
-{
-    u32::from(counts)
 }
 
 /// Whether a text is the bytes of the one and then those of the other.
