@@ -94,7 +94,9 @@ fn parameters_by(
     ensures { JudgedAt place result
         (parameters_of consts.now given.now (map assignment_of params.now)) }
 {
-    let mut env = List::new(alloc);
+    // The constants are put behind them.
+    let room = params.len().saturating_add(consts.len());
+    let mut env = List::with_room(alloc, room)?;
     for param in params.as_slice() {
         env.push(parameter(alloc, consts, given, places, param, place)?)?;
     }
@@ -130,7 +132,7 @@ fn shaped(alloc: Global, env: &Env, formal: &Formal, place: Place) -> Result<Sha
 fn shapes(alloc: Global, env: &Env, formals: &Formals, place: Place) -> Result<List<Shape>, Stop>
     ensures { JudgedAt place result (shapes_of env.now (map formal_of formals.now)) }
 {
-    let mut shapes = List::new(alloc);
+    let mut shapes = List::with_room(alloc, formals.len())?;
     for formal in formals.as_slice() {
         shapes.push(shaped(alloc, env, formal, place)?)?;
     }

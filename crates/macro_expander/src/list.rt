@@ -72,9 +72,5 @@ impl<T: Drop> Row<T> {
 pub fn copied<T: Copy>(alloc: Global, items: &[T]) -> Result<List<T>, NoMemory>
     ensures { IfOk result (λ copies. copies ≡ items.now) }
 {
-    let mut copies = List::with_room(alloc, items.len())?;
-    for item in items {
-        copies.push(*item)?;
-    }
-    Ok(copies)
+    List::from_slice(alloc, items)
 }

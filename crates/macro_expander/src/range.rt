@@ -72,9 +72,7 @@ pub fn written_ends(range: &WrittenRange, env: &Env) -> Result<Option<(i64, i64)
 fn zero(alloc: Global, place: Place) -> Result<Indices, Stop>
     ensures { JudgedAt place result (numbers_of None) }
 {
-    let mut numbers = List::new(alloc);
-    numbers.push(0)?;
-    Ok(numbers)
+    Ok(List::from_slice(alloc, &[0])?)
 }
 
 /// The numbers of a range with these ends, or 0 if none is written.
