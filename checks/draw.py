@@ -1,13 +1,17 @@
 #!/usr/bin/env python3
-"""Reads pictures of `draw case=K` as XML, and compares each with the report of `verify`: each net is in one row; a row
-shows its wave run by run, is shaded where its skew lets it step, and has its latest changes where they may come.
-Usage: draw.py, with a line `PICTURE REPORT CASE` on standard input for each picture. It prints what differs, a line for
-each picture that is not as the report has it, and ends with 0 if there is none."""
+"""Reads pictures of `draw case=K` and pages of `draw` as XML, and compares each with the report of `verify`: each net is
+in one row; a row shows its wave run by run, is shaded where its skew lets it step, and has its latest changes where they
+may come. A page has the report's head and last line, a picture of each case, and broken limits if there are faults; to
+these lead rows of its table and the numbers in pictures. One of the nets below a path has these, and no limits.
+Usage: draw.py, with a line `PICTURE REPORT CASE`, `PAGE REPORT page` or `PAGE REPORT waves PATH` on standard input for
+each of them. It prints what differs, a line for each that is not as the report has it, and ends with 0 if there is none."""
+import itertools
 import re
 import sys
 import xml.etree.ElementTree as ET
 
 SVG = "{http://www.w3.org/2000/svg}"
+HTML = "{http://www.w3.org/1999/xhtml}"
 BUSY = "RFCU"
 WIDEST = 9600
 
@@ -88,8 +92,8 @@ def row_faults(name, rest, label, paths, case):
             yield "%s: another path of class %s" % (name, kind)
 
 
-def faults_of(root, case, number):
-    """What is wrong in a picture of a case."""
+def faults_of(root, case, number, path=""):
+    """What is wrong in a picture of a case, of the nets whose names begin with a path."""
     head = "%d nets, period %d, two periods; holds from tick %d on" % (len(case.waves), case.period, case.tick)
     if root.find(SVG + "title").text != ("case %d: " % number if number else "") + head:
         yield "another heading: %s" % root.find(SVG + "title").text
@@ -99,18 +103,49 @@ def faults_of(root, case, number):
         seen += nets_of(name + ">")
         paths = [(p.get("class"), p.get("d")) for p in group.findall(SVG + "path")]
         yield from row_faults(name + ">", rest, group.find(SVG + "text").text, paths, case)
-    if sorted(seen) != sorted(case.waves):
-        yield "%d nets are in rows, and there are %d" % (len(seen), len(case.waves))
+    below = [net for net in case.waves if net.startswith(path)]
+    if sorted(seen) != sorted(below):
+        yield "%d nets are in rows, and there are %d" % (len(seen), len(below))
+
+
+def page_faults(root, report, shows_limits, path=""):
+    """What is wrong in a page, of the nets whose names begin with a path."""
+    lines = report.splitlines()
+    title = root.find(".//" + HTML + "h1").text
+    if not title.endswith(": " + lines[-1]):
+        yield "another title: %s" % title
+    head = list(itertools.takewhile(lambda line: not line.startswith("CASE "), lines))
+    if root.find(".//" + HTML + "pre").text.splitlines()[: len(head)] != head:
+        yield "another head than in the report"
+    sections = list(root.iter(HTML + "section"))
+    limits = [section for section in sections if section.get("id").startswith("f")]
+    numbers = [int(line.split(" ")[1]) for line in lines if line.startswith("CASE ")]
+    names = ["f%d" % (i + 1) for i in range(len(limits))] + ["k%d" % (i + 1) for i in range(len(numbers))]
+    if [section.get("id") for section in sections] != names:
+        yield "%d sections, %d of them limits, of %d cases" % (len(sections), len(limits), len(numbers))
+    links = [link.get("href") for link in root.find(".//" + HTML + "pre").iter(HTML + "a")]
+    if links != ["#" + section.get("id") for section in limits]:
+        yield "the rows of the table lead to %s" % " ".join(links)
+    if not {link.get("href") for link in root.iter(SVG + "a")} <= set(links):
+        yield "a fault of a row leads nowhere"
+    if bool(limits) != (shows_limits and lines[-1] != "CLEAN"):
+        yield "%d limits, and %s" % (len(limits), lines[-1])
+    for section, number in zip(sections[len(limits) :], numbers):
+        yield from faults_of(section.find(SVG + "svg"), Case(report, number), number, path)
 
 
 def main():
     wrong = 0
     for line in sys.stdin:
-        picture, report, number = line.split()
+        picture, report, number, *path = line.rstrip("\n").split(" ", 3)
         try:
             root = ET.parse(picture).getroot()
-            case = Case(open(report, encoding="ascii").read(), int(number))
-            faults = list(faults_of(root, case, int(number)))
+            with open(report, encoding="ascii") as file:
+                text = file.read()
+            if number in ("page", "waves"):
+                faults = list(page_faults(root, text, number == "page", *path))
+            else:
+                faults = list(faults_of(root, Case(text, int(number)), int(number)))
         except (ET.ParseError, AttributeError, ValueError) as fault:
             faults = ["it cannot be read: %r" % fault]
         if faults:

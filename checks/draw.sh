@@ -1,11 +1,13 @@
 #!/bin/sh
 # Tries `draw` of the built program: the pictures of the drawings of checks/draw byte for byte, as they were worked out
-# by hand, and those that stand beside examples; a picture of each case of each example, of names with every byte that
-# a name may have, and of the first case of 300 random drawings, all of which checks/draw.py reads as XML and compares
-# with the report; a case that is not there; that a text without waves gets its answer from `verify`; and both limits.
-# The picture of the ALU, whose bits join, has at most 12,000 bytes, and one of 500 rows 260,000. If xmllint
-# (libxml2-utils) and chromium are installed, the one reads every picture and the other renders five; if not, the check
-# says of how many it skipped that. --short tries 60 random drawings, which ./check does.
+# by hand, and those that stand beside examples; a limit that is broken; the page and a picture of each case of each
+# example; of names with every byte that a name may have, and of 300 random drawings, the page and the first case.
+# checks/draw.py reads all pages and these pictures as XML and compares them with the report. Also a case that is not
+# there; pages of the nets below a path; that a text without waves gets its answer from `verify`; and both limits. The
+# picture of the ALU, whose bits join, has at most 12,000 bytes, and one of 500 rows 260,000. If xmllint (libxml2-utils)
+# and chromium are installed, the one reads every picture and page and the other renders five pages; if not, the check
+# says of how many it skipped that.
+# --short tries 60 random drawings, which ./check does.
 # Usage: checks/draw.sh [--short] [PROGRAM]. If none is named and none is built it says so and ends with 0. Needs
 # python3.
 . "$(dirname -- "$0")/common.sh"
@@ -28,6 +30,28 @@ draws() {
     echo "$picture $work/reports/$1 $3" >>"$work/list"
 }
 
+# page NAME DRAWING STATUS: the page of a drawing, which stands in the list to be compared with $work/reports/NAME
+page() {
+    picture=$work/pictures/$1.xhtml
+    trying "$1: draw"
+    "$program" draw <"$2" >"$picture" 2>/dev/null
+    status=$?
+    [ "$status" -eq "$3" ] || failure "$1: draw: status $status in place of $3"
+    echo "$picture $work/reports/$1 page" >>"$work/list"
+}
+
+# below NAME DRAWING STATUS: the page of the nets whose names begin as that of the last one does, which stands in the list
+below() {
+    path=$(sed -n 's/^WAVE \(.\{1,3\}\).* SKEW .*/\1/p' "$work/reports/$1" | tail -n 1)
+    [ -n "$path" ] || return
+    picture=$work/pictures/$1.below.xhtml
+    trying "$1: draw waves under=$path"
+    "$program" draw waves "under=$path" <"$2" >"$picture" 2>/dev/null
+    status=$?
+    [ "$status" -eq "$3" ] || failure "$1: draw waves under=$path: status $status in place of $3"
+    echo "$picture $work/reports/$1 waves $path" >>"$work/list"
+}
+
 # has_none NAME DRAWING COUNT: there is no case of the highest number, and standard error says how many are listed
 has_none() {
     "$program" draw case=256 <"$2" >"$work/out" 2>"$work/said"
@@ -41,6 +65,16 @@ has_none() {
 # is_stored NAME PICTURE: the picture that was drawn last is this one
 is_stored() {
     cmp -s "$picture" "$2" || failure "$1: another picture than $(basename -- "$2")"
+}
+
+# worst NAME DRAWING: the worst limit of a drawing with faults is drawn as it stands beside the drawing
+worst() {
+    picture=$work/pictures/$1.limit.svg
+    trying "$1: draw 1"
+    "$program" draw 1 <"$2" >"$picture" 2>/dev/null
+    status=$?
+    [ "$status" -eq 1 ] || failure "$1: draw 1: status $status in place of 1"
+    is_stored "$1" "${2%.scald}.limit.svg"
 }
 
 # try_text NAME DRAWING [all]: a text is answered as by `verify`, but for the pictures of its first case, or of all
@@ -64,12 +98,101 @@ try_text() {
         draws "$1" "$2" "$number" "$wanted"
         [ ! -f "${2%.scald}.svg" ] || [ "$number" -gt 1 ] || is_stored "$1" "${2%.scald}.svg"
     done
+    [ "$wanted" -eq 0 ] || [ ! -f "${2%.scald}.limit.svg" ] || worst "$1" "$2"
+    page "$1" "$2" "$wanted"
+    below "$1" "$2" "$wanted"
     has_none "$1" "$2" "$listed"
 }
 
 for drawing in "$top"/checks/draw/*.scald "$top"/examples/*.scald; do
     try_text "$(basename -- "$drawing" .scald)" "$drawing" all
 done
+
+# A limit that is broken, by its number among the broken ones and among all; there is no second one.
+fault=$top/checks/draw/fault.scald
+limit() {
+    trying "fault: draw $1"
+    # shellcheck disable=SC2086
+    "$program" draw $1 <"$fault" >"$work/out" 2>/dev/null
+    status=$?
+    [ "$status" -eq "$2" ] || failure "fault: draw $1: status $status in place of $2"
+}
+for words in 1 worst=1; do
+    limit "$words" 1
+    cmp -s "$work/out" "${fault%.scald}.limit.svg" || failure "fault: draw $words: another picture than fault.limit.svg"
+done
+limit 2 10
+[ ! -s "$work/out" ] || failure 'fault: draw 2 writes something'
+
+# Pages of it have that limit, or the waves of its case.
+for words in faults waves; do
+    limit "$words" 1
+    limits=$(grep -c '^<section id="f' "$work/out")
+    cases=$(grep -c '^<section id="k' "$work/out")
+    links=$(grep -c '<a ' "$work/out")
+    case $words:$limits:$cases:$links in
+    faults:1:0:1 | waves:0:1:0) ;;
+    *) failure "fault: draw $words: $limits limits, $cases cases, and links in $links lines" ;;
+    esac
+done
+
+# Where a net is hidden, so are its marks, and edges that come to it or from it.
+marks() {
+    limit "waves $1" 1
+    flags=$(grep -c '>fault ' "$work/out")
+    windows=$(grep -c 'class="win"' "$work/out")
+    edges=$(grep -c 'class="edge"' "$work/out")
+    [ "$flags:$windows:$edges" = "$2" ] || failure "fault: draw waves $1: flags, windows and edges are $flags:$windows:$edges"
+}
+marks '' 1:1:1
+marks under= 1:1:1
+marks under=D 1:1:0
+marks under='D<0>' 1:1:0
+marks under=CK 0:0:0
+limit 'waves under=E' 10
+[ ! -s "$work/out" ] || failure 'fault: draw waves under=E writes something'
+
+# rows NAME PATH ROWS: which rows of this text in $work are drawn below a path
+rows() {
+    trying "$1: draw waves under=$2"
+    "$program" draw waves "under=$2" <"$work/$1" >"$work/out" 2>/dev/null
+    labels=$(sed -n 's/.*<title>\([^ ]*\) SKEW .*/\1/p' "$work/out" | tr '\n' ' ' | sed 's/&lt;/</g; s/&gt;/>/g')
+    [ "$labels" = "$3" ] || failure "$1: draw waves under=$2: the rows are $labels"
+}
+
+# Of bits that adjoin in a row, those below the path remain side by side.
+cat >"$work/bits.scald" <<'TEXT'
+SCALD 2;
+CLOCK 4 x 2;
+DRAWING BITS;
+  c : MIN_PULSE_CHK ("D"<0:12>);
+  b : BUF [0:0] ("D"<0>) -> ("E");
+END;
+TEXT
+rows bits.scald 'D<1' 'D<1> D<10:12> '
+
+# With its slash a path is that of one use, and of the uses in it.
+cat >"$work/uses.scald" <<'TEXT'
+SCALD 2;
+CLOCK 4 x 2;
+MACRO INNER ("A") -> ("X");
+  b : BUF [0:0] ("A") -> ("T");
+  c : BUF [0:0] ("T") -> ("X");
+END;
+MACRO OUTER ("A") -> ("X");
+  b : BUF [0:0] ("A") -> ("T");
+  v : INNER ("T") -> ("X");
+END;
+DRAWING USES;
+  u1 : OUTER ("A") -> ("X");
+  u10 : INNER ("A") -> ("Y");
+END;
+TEXT
+rows uses.scald u1/ 'u1/T<0> u1/v/T<0> '
+rows uses.scald u1/v/ 'u1/v/T<0> '
+rows uses.scald u1 'u1/T<0> u1/v/T<0> u10/T<0> '
+rows uses.scald '' 'A<0> X<0> Y<0> u1/T<0> u1/v/T<0> u10/T<0> '
+
 alu=$work/pictures/alu.0.svg
 [ "$(wc -c <"$alu")" -le 12000 ] || failure "alu: a picture of $(wc -c <"$alu") bytes"
 
@@ -145,10 +268,9 @@ else
 fi
 if command -v chromium >/dev/null 2>&1; then
     trying chromium
-    # (the first has a skew)
-    for name in skew_hold alu two_phase register_file machine; do
-        echo "$work/pictures/$name.0.svg"
-    done | xargs python3 -B "$top/checks/render.py" chromium "$work" >"$work/said" 2>&1 ||
+    for name in skew_hold one_bit gated_hazard case_register machine; do
+        echo "$work/pictures/$name.xhtml"
+    done | xargs python3 -B "$top/checks/render.py" chromium "$work" "$work/pictures/skew_hold.0.svg" >"$work/said" 2>&1 ||
         failure "chromium: $(tail -n 1 "$work/said")"
 else
     skipped="$skipped, 5 not rendered by chromium, which is not here"

@@ -124,7 +124,8 @@ status=$?
 cmp -s "$work/report" "$processor.report" || failure "processor: another report"
 cmp -s "$work/said" "$processor.crossings" || failure "processor: other nets that cross"
 
-# README.md shows the first drawing, its report, the fault that it has with another digit, and how that is explained.
+# README.md shows the first drawing, its report, the fault that it has with another digit, how that is explained, and
+# its picture.
 trying README.md
 awk -v folder="$work" '
     /^## / { on = $0 == "## A drawing and its report" }
@@ -137,10 +138,12 @@ sed 's/"D .S1-4"/"D .S2-4"/' "$work/shown1" >"$work/text"
 "$program" verify <"$work/text" | tail -n 2 | cmp -s - "$work/shown3" || failure 'README.md: another fault'
 "$program" explain <"$work/text" | sed -n '/^1[.] /,/^$/p' | sed '/^$/,$d' | cmp -s - "$work/shown4" ||
     failure 'README.md: another explanation'
+"$program" draw 1 <"$work/text" | cmp -s - "$top/examples/first.limit.svg" || failure 'README.md: another picture'
 
 for report in "$top"/examples/*.report "$top"/examples/*.notes "$top"/examples/*.margins "$top"/examples/*.chains "$top"/examples/*.explained "$top"/examples/*.svg \
     "$top"/examples/sections/*.report "$top"/examples/sections/*.margins "$top"/examples/sections/*.crossings; do
-    [ -f "${report%.*}.scald" ] || [ -f "${report%.*}.sections" ] ||
+    drawing=${report%.*}
+    [ -f "${drawing%.limit}.scald" ] || [ -f "$drawing.sections" ] ||
         failure "$(basename -- "$report"): no drawing beside it"
 done
 

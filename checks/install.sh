@@ -173,7 +173,7 @@ if ! passed_over bash; then
     offers '' scald bench ''
     offers 'case=' scald run c
     offers 'tick=' scald vcd t
-    offers 'case=' scald draw c
+    offers 'case=;faults;rounds=;row.scald;sub folder;under=;vast.scald;waves;worst=' scald draw ''
     offers 'rounds=;row.scald' scald draw case=0 r
     offers 'vast.scald' scald judge 0 v
     offers 'cells;cpu.json;sub folder' scald import ''
@@ -200,7 +200,7 @@ scald upgrade s|sub folder
 scald bench |
 scald run c|case=
 scald vcd t|tick=
-scald draw c|case=
+scald draw |case=;faults;rounds=;row.scald;sub folder;under=;vast.scald;waves;worst=
 scald draw case=0 r|rounds=;row.scald
 scald judge 0 v|vast.scald
 scald import |cells;cpu.json;sub folder

@@ -179,7 +179,10 @@ forms='usage:
     scald run T SEED [case=K] [long] <DRAWING          a run of T ticks that a seed draws, 1 to 4096, or with long 65535, as a trace
     scald vcd T SEED [case=K] [tick=1ns] <DRAWING      the same run as a value change dump, for a wave viewer
     scald judge F [long] <TRACE-AND-DRAWING            whether the trace is a run, and what breaks in it from tick F on
+    scald draw [faults|waves] [rounds=N] <DRAWING      a page of the broken limits and of the waves of all cases, or of one of both
+    scald draw waves under=PATH [rounds=N] <DRAWING    a page of the waves of the nets whose names begin with PATH
     scald draw case=K [rounds=N] <DRAWING              the waves of a case as a picture; K is 0 if no case is listed
+    scald draw N|worst=N [rounds=N] <DRAWING           the N-th limit that is broken, or the N-th of all, as a picture
     scald import [cells] <NETLIST                      macros of a netlist that yosys wrote as JSON, or of its kinds of cells, to fill in
     scald bench N                                      what is found in a made drawing of N sections, 1 to 200'
 
@@ -305,11 +308,19 @@ none "'case=0' cannot come after '0': K is 1 to 256, without zeros in front" run
 none "'case=257' cannot come after '0': K is 1 to 256, without zeros in front" run 6 0 case=257
 none "'cases=2' cannot come after '0': is case=K meant?" run 6 0 cases=2
 none "'x' cannot come after 'case=1'" run 6 0 case=1 x
-none "a word is missing after 'draw'" draw
 none "'case=257' cannot come after 'draw': K is 0 to 256, without zeros in front" draw case=257
 none "'case=00' cannot come after 'draw': K is 0 to 256, without zeros in front" draw case=00
 none "'cases=0' cannot come after 'draw': is case=K meant?" draw cases=0
-none "'waves' cannot come after 'draw'" draw waves
+none "'case=0' cannot come after 'waves'" draw waves case=0
+none "'unde=A' cannot come after 'waves': is under=PATH meant?" draw waves unde=A
+none "'under=A' cannot come after 'faults'" draw faults under=A
+none "'under=A' cannot come after 'under=B'" draw waves under=B under=A
+none "'rounds=0' cannot come after 'under=B': N is 1 to 10000000, without zeros in front" draw waves under=B rounds=0
+none "'wave' cannot come after 'draw': is waves meant?" draw wave
+none "'fault' cannot come after 'draw': is faults meant?" draw fault
+none "'0' cannot come after 'draw'" draw 0
+none "'worst=0' cannot come after 'draw': N is 1 to 65536, without zeros in front" draw worst=0
+none "'rounds=0' cannot come after 'draw': N is 1 to 10000000, without zeros in front" draw rounds=0
 none "'rounds=0' cannot come after 'case=0': N is 1 to 10000000, without zeros in front" draw case=0 rounds=0
 none "'x' cannot come after 'case=0'" draw case=0 x
 none "'x' cannot come after 'rounds=1'" draw case=0 rounds=1 x

@@ -1,8 +1,8 @@
 #!/usr/bin/env python3
-"""Has chromium render pictures of `draw case=K`, and looks whether each row is drawn and no text stands outside its
-picture or over another; and whether the first picture, which has a skew, has the colours of the ground, of lines and
-of shades on a light and on a dark screen. Usage: render.py CHROMIUM FOLDER PICTURE .., with a folder for what it makes.
-It prints what is wrong, and ends with 0 if nothing is."""
+"""Has chromium render pages of `draw`, and looks whether each row of their pictures is drawn and no text stands outside
+its picture or over another; and whether a picture of waves with a skew has the colours of the ground, of lines and of
+shades on a light and on a dark screen. Usage: render.py CHROMIUM FOLDER PICTURE PAGE .., with a folder for what it
+makes. It prints what is wrong, and ends with 0 if nothing is."""
 import html
 import json
 import pathlib
@@ -63,20 +63,22 @@ def colours_of(png):
     return colours
 
 
-def row_faults(browser, folder, pictures):
-    """What is wrong with the rows and the texts of pictures."""
-    texts = [path.read_text() for path in pictures]
-    page = folder / "page.html"
-    page.write_text("<!DOCTYPE html><meta charset=utf-8><body>%s<script>%s</script>" % ("".join(texts), SCRIPT))
+def row_faults(browser, folder, path):
+    """What is wrong with the rows and the texts of the pictures of a page."""
+    text = path.read_text()
+    page = folder / "page.xhtml"
+    page.write_text(text.replace("</body>", "<script><![CDATA[%s]]></script></body>" % SCRIPT))
     shown = html.unescape(run_browser(browser, "--window-size=1600,1200", "--dump-dom", page.as_uri()))
     found = re.search(r"FOUND (\[.*\]) END", shown, re.DOTALL)
     if not found:
-        yield "chromium shows nothing"
+        yield f"{path.name}: chromium shows nothing"
         return
-    for path, text, (rows, outside, meeting) in zip(pictures, texts, json.loads(found[1])):
-        wanted = text.count('<g transform="translate(0 ')
-        if rows != wanted:
-            yield f"{path.name}: {rows} rows are drawn, and there are {wanted}"
+    pictures = json.loads(found[1])
+    rows = sum(rows for rows, _, _ in pictures)
+    wanted = text.count('<g transform="translate(0 ')
+    if rows != wanted:
+        yield f"{path.name}: {rows} rows are drawn, and there are {wanted}"
+    for _, outside, meeting in pictures:
         for where, words in (("outside", outside), ("over another text", meeting)):
             if words:
                 yield f"{path.name}: {words[0]} stands {where}"
@@ -97,8 +99,9 @@ def colour_faults(browser, folder, picture):
 
 def main():
     browser, *names = sys.argv[1:]
-    folder, *pictures = (pathlib.Path(name).resolve() for name in names)
-    wrong = [*row_faults(browser, folder, pictures), *colour_faults(browser, folder, pictures[0])]
+    folder, picture, *pages = (pathlib.Path(name).resolve() for name in names)
+    wrong = [fault for page in pages for fault in row_faults(browser, folder, page)]
+    wrong += colour_faults(browser, folder, picture)
     print("\n".join(wrong))
     sys.exit(1 if wrong else 0)
 

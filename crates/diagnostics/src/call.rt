@@ -20,13 +20,13 @@ const SECTIONS: &[u8] = b"sections";
 struct Bounds(&'static [u8], u64, u64);
 
 /// What words go on with: with one of these words, if with any; with a number; with a tick of this
-/// name and at least so many; or with `case=` and a number.
+/// name and at least so many; or with one of these words, of which `case=` has a number of its own.
 #[derive(Clone, Copy)]
 enum Next {
     Word(&'static [&'static [u8]]),
     Number(Bounds),
     Tick(&'static [u8], u64),
-    Case(Bounds),
+    Case(Bounds, &'static [&'static [u8]]),
 }
 
 /// The numbers that stand after a word.
@@ -53,7 +53,7 @@ const MOST_TICKS: [u64; 2] = [4096, 65_535];
 const SEEDS: Bounds = Bounds(b"SEED", 0, u64::MAX);
 
 /// What a form goes on with, by its command and how many words stand after that.
-const FORMS: [(&[u8], usize, Next); 22] = [
+const FORMS: [(&[u8], usize, Next); 23] = [
     (
         b"verify",
         0,
@@ -76,8 +76,16 @@ const FORMS: [(&[u8], usize, Next); 22] = [
     (b"vcd", 3, Next::Word(&[b"tick=1ns"])),
     (b"judge", 0, Next::Tick(b"F", 0)),
     (b"judge", 1, Next::Word(&[LONG])),
-    (b"draw", 0, Next::Case(Bounds(b"K", 0, 256))),
+    (
+        b"draw",
+        0,
+        Next::Case(
+            Bounds(b"K", 0, 256),
+            &[b"faults", b"waves", b"case=K", b"worst=N", b"rounds=N"],
+        ),
+    ),
     (b"draw", 1, Next::Word(&[b"rounds=N"])),
+    (b"draw", 2, Next::Word(&[b"rounds=N"])),
     (b"import", 0, Next::Word(&[b"cells"])),
     (b"bench", 0, Next::Number(Bounds(b"N", 1, 200))),
 ];
@@ -97,11 +105,22 @@ fn is_ended(words: &[Bytes]) -> bool {
     has_front(words, b"rounds=") || has_front(words, TICK) || has_front(words, LONG)
 }
 
+/// Whether a page of waves is asked for, of which a path may leave out some.
+fn are_waves(command: &[u8], others: &[Bytes]) -> bool {
+    match others {
+        [shown] => command == b"draw".as_slice() && shown.as_slice() == b"waves".as_slice(),
+        _ => false,
+    }
+}
+
 /// What the words go on with that begin a form.
 fn next_of(words: &[Bytes]) -> Next {
     let [first, others @ ..] = words else {
         return Next::Word(&COMMANDS);
     };
+    if are_waves(first.as_slice(), others) {
+        return Next::Word(&[b"under=PATH", b"rounds=N"]);
+    }
     for (command, count, next) in &FORMS {
         if first.as_slice() == *command && others.len() == *count && !is_ended(others) {
             return *next;
@@ -180,8 +199,8 @@ pub fn explain_words(alloc: Global, words: &Words, number: u32) -> Lines {
                 Next::Word(words) => add_meant(&mut out, words, word),
                 Next::Number(bounds) => add_bounds(&mut out, bounds),
                 Next::Tick(name, least) => add_ticks(&mut out, name, least),
-                Next::Case(bounds) if word.starts_with(CASE) => add_bounds(&mut out, bounds),
-                Next::Case(_) => add_meant(&mut out, &[b"case=K"], word),
+                Next::Case(bounds, _) if word.starts_with(CASE) => add_bounds(&mut out, bounds),
+                Next::Case(_, words) => add_meant(&mut out, words, word),
             }
         }
     }

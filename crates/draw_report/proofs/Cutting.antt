@@ -1,12 +1,13 @@
 -- Rows, cut net by net.
-use Rattle.std.proofs.Common.{◌≡◌, ℕ, zero, suc, ◌+◌, ◌-◌, ◌<◌, ◌≤◌, Bool, true, false, List, [], ◌∷◌, ◌++◌, length, append_assoc, append-nil, refl, arith, ap, sym, ◌∙◌}
+use Rattle.std.proofs.Common.{◌≡◌, ℕ, zero, suc, ◌+◌, ◌-◌, ◌<◌, ◌≤◌, Bool, true, false, List, [], ◌∷◌, ◌++◌, length, append_assoc, append-nil, Option, Some, None, refl, arith, ap, sym, ◌∙◌}
 use Rattle.std.specs.Prelude.{if◌then◌else◌}
 use Rattle.std.specs.List.{All, filter, flat_map, range_with_len}
-use Rattle.std.proofs.lemmas.List.Elements.{All-append, All-cons, All-filter, All-nil}
+use Rattle.std.proofs.lemmas.List.Elements.{All-append, All-cons, All-filter, All-head, All-nil, All-tail}
 use borrow.Author.Count.{below_more}
 use Rattle.flat_circuit.specs.Circuit.{Circuit}
 use Rattle.fixpoint_engine.specs.Waves.{Waves}
 use Rattle.draw_report.specs.declared.row.Row.{Row}
+use Rattle.draw_report.specs.Below.{HaveNets, is_like_last, is_row_below, parts, rows_below}
 use Rattle.draw_report.specs.Row.{AreInside, AreRows, RowsAre, cut, cut_all, is_clock_row, is_other_row, joins, named_rows, one_row, places, rows_of}
 use Rattle.draw_report.proofs.Ranges.{range_apart}
 
@@ -182,3 +183,61 @@ rows_inside c ws =
     (filter (is_other_row c) (named_rows c ws))
     (All-filter (is_clock_row c) inside (named_rows c ws) (named_inside c ws))
     (All-filter (is_other_row c) inside (named_rows c ws) (named_inside c ws))
+
+-- ---- rows below a path
+
+-- rows have nets
+pub rows_have_nets : (c : Circuit) (ws : Waves) → HaveNets (rows_of c ws)
+rows_have_nets c ws =
+    let has = λ (r : Row). r.from < r.to in
+    let named = (rows_are c ws).some in
+    All-append has (filter (is_clock_row c) (named_rows c ws))
+    (filter (is_other_row c) (named_rows c ws))
+    (All-filter (is_clock_row c) has (named_rows c ws) named)
+    (All-filter (is_other_row c) has (named_rows c ws) named)
+
+-- which all exist
+ended_by : (c : Circuit) (ws : Waves) (count : ℕ) → length c.nets ≡ count →
+    All (λ (r : Row). r.to ≤ length c.nets) (cut_all (joins c ws) count)
+ended_by c ws zero is = All-nil (λ (r : Row). r.to ≤ length c.nets)
+ended_by c ws (suc more) is =
+    let a = cut_are (joins c ws) 0 1 more (omega arith) (λ p after before. absurd (omega arith)) in
+    λ k d inside. (let within = a.within k d inside in omega (arith, within, is))
+
+rows_ended : (c : Circuit) (ws : Waves) →
+    All (λ (r : Row). r.to ≤ length c.nets) (rows_of c ws)
+rows_ended c ws =
+    let ends = λ (r : Row). r.to ≤ length c.nets in
+    let named = ended_by c ws (length c.nets) refl in
+    All-append ends (filter (is_clock_row c) (named_rows c ws))
+    (filter (is_other_row c) (named_rows c ws))
+    (All-filter (is_clock_row c) ends (named_rows c ws) named)
+    (All-filter (is_other_row c) ends (named_rows c ws) named)
+
+module _ (c : Circuit) (path : List ℕ) where
+  parts_inside : (r : Row) → r.from < r.to → r.to ≤ length c.nets →
+      AreInside c (parts c path r)
+  parts_inside r some ends =
+      let a = cut_are (is_like_last c path) r.from (r.from + 1) (r.to - (r.from + 1)) (omega arith)
+      (λ p after before. absurd (omega (arith, after, before))) in
+      λ k d inside. (let has = a.some k d inside in let within = a.within k d inside in
+      omega (arith, has, within, some, ends))
+
+  all_inside : (rs : List Row) → HaveNets rs → All (λ (r : Row). r.to ≤ length c.nets) rs →
+      AreInside c (flat_map (parts c path) rs)
+  all_inside [] some ends = All-nil (λ (r : Row). r.from < length c.nets)
+  all_inside (r ∷ rs) some ends =
+      All-append (λ (q : Row). q.from < length c.nets) (parts c path r)
+      (flat_map (parts c path) rs)
+      (parts_inside r (All-head (λ (q : Row). q.from < q.to) r rs some)
+      (All-head (λ (q : Row). q.to ≤ length c.nets) r rs ends))
+      (all_inside rs (All-tail (λ (q : Row). q.from < q.to) r rs some)
+      (All-tail (λ (q : Row). q.to ≤ length c.nets) r rs ends))
+
+pub rows_below_inside : (c : Circuit) (ws : Waves) (under : Option (List ℕ)) →
+    AreInside c (rows_below c under (rows_of c ws))
+rows_below_inside c ws None = rows_inside c ws
+rows_below_inside c ws (Some path) =
+    All-filter (is_row_below c path) (λ (r : Row). r.from < length c.nets)
+    (flat_map (parts c path) (rows_of c ws))
+    (all_inside c path (rows_of c ws) (rows_have_nets c ws) (rows_ended c ws))

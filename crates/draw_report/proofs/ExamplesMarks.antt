@@ -10,7 +10,7 @@ use Rattle.draw_report.specs.declared.mark.Side.TheVariants.{Clock, Data}
 use Rattle.draw_report.specs.declared.mark.Spot.{Spot}
 use Rattle.draw_report.specs.declared.view.View.{View}
 use Rattle.draw_report.specs.Element.{all_written}
-use Rattle.draw_report.specs.Mark.{bad_in, flag_in, is_far, mark_nodes, window_in}
+use Rattle.draw_report.specs.Mark.{bad_in, flags, is_far, mark_nodes, window_in}
 use Rattle.draw_report.specs.Caption.{caption_nodes}
 use Rattle.draw_report.specs.Picture.{grid_of, height_of, label_room, width_of}
 
@@ -42,11 +42,15 @@ arrows_written = refl
 
 -- ---- flags
 
--- right of its row, and at no other
-pub flag_written : map (λ row. all_written (flag_in near row (Flag 1 3))) (0 ∷ 1 ∷ 2 ∷ [])
-    ≡ [] ∷ codes "<text class=\"r\" x=\"10294\" y=\"160\">fault 3</text>" ∷ [] ∷ []
+-- right of their row, and of no other; one of them leads to its picture
+abbrev flagged : List Mark
+flagged = Flag 1 3 false ∷ Flag 2 4 true ∷ Flag 1 15 true ∷ []
+
+pub flags_written : map (λ row. all_written (flags near row flagged)) (0 ∷ 1 ∷ 2 ∷ [])
+    ≡ [] ∷ codes "<text class=\"r\" x=\"10294\" y=\"160\">fault 3<a href=\"#f15\"> 15</a></text>"
+    ∷ codes "<text class=\"r\" x=\"10294\" y=\"160\">fault<a href=\"#f4\"> 4</a></text>" ∷ []
 unfolding digits
-flag_written = refl
+flags_written = refl
 
 -- ---- notes
 

@@ -1,5 +1,5 @@
 -- Rows of small circuits, and what is said above them, worked out on paper.
-use Rattle.std.specs.Prelude.{◌≡◌, ℕ, ◌==◌, Bool, true, false, List, [], ◌∷◌, codes, map, if◌then◌else◌, Some, None}
+use Rattle.std.specs.Prelude.{◌≡◌, ℕ, ◌==◌, Bool, true, false, List, [], ◌∷◌, codes, map, if◌then◌else◌, Option, Some, None}
 use Rattle.std.specs.Fmt.{digits}
 use Rattle.std.proofs.Common.{refl}
 use Rattle.scald_base.specs.Time.{Bounds, Header}
@@ -18,7 +18,9 @@ use Rattle.flat_circuit.specs.declared.limits.Limits.TheVariants.{None as Unlimi
 use Rattle.flat_circuit.specs.declared.net.Net.{Net}
 use Rattle.flat_circuit.specs.Circuit.{Circuit}
 use Rattle.fixpoint_engine.specs.Waves.{Waves}
+use Rattle.draw_report.specs.declared.row.Row.{Row}
 use Rattle.draw_report.specs.Row.{are_clocks, follows, label, one_row, rows_of}
+use Rattle.draw_report.specs.Below.{begins_with, has_below, rows_below}
 use Rattle.draw_report.specs.Picture.{case_heading, case_view}
 
 abbrev bounds : ℕ → ℕ → Bounds
@@ -114,7 +116,62 @@ waves_are_apart = refl
 pub clock_is_apart : rows_of (enabled_by 2) one_wave ≡ one_row 1 2 ∷ one_row 3 4 ∷ one_row 0 1 ∷ one_row 2 3 ∷ []
 clock_is_apart = refl
 
--- the next bit of the same name follows, and no other: not a lower one, nor one after a gap
+-- ---- rows below a path
+
+-- With its slash a path is that of a use, and of the uses in it. No other use is below it, though
+-- its label begins alike; nor is a net of the use around it, nor a global one.
+pub of_a_use : map (begins_with (codes "a/")) (
+    codes "a/b<0>" ∷ codes "a/c/b<0>" ∷ codes "ab/b<0>" ∷ codes "ab<0>" ∷ codes "a<0>"
+    ∷ codes "c/a/b<0>" ∷ codes "/a/b<0>" ∷ codes "A/b<0>" ∷ codes "a" ∷ [] ∷ [])
+    ≡ true ∷ true ∷ false ∷ false ∷ false ∷ false ∷ false ∷ false ∷ false ∷ false ∷ []
+of_a_use = refl
+
+-- without it both uses are
+pub of_both_uses : map (begins_with (codes "a")) (codes "a/b<0>" ∷ codes "ab/b<0>" ∷ codes "b<0>" ∷ [])
+    ≡ true ∷ true ∷ false ∷ []
+of_both_uses = refl
+
+-- Of a/D, ab/D and D, which have one wave, all three are rows, and the first is below a/.
+abbrev in_uses : Circuit
+in_uses =
+    circuit (bare (codes "D") 0 ∷ bare (codes "a/D") 0 ∷ bare (codes "ab/D") 0 ∷ []) []
+    (0 ∷ 1 ∷ 2 ∷ [])
+
+pub uses_are_apart : map (λ path. rows_below in_uses (Some path) (rows_of in_uses one_wave))
+    (codes "a/" ∷ codes "a" ∷ codes "ab/" ∷ codes "D" ∷ codes "b" ∷ [])
+    ≡ (one_row 1 2 ∷ []) ∷ (one_row 1 2 ∷ one_row 2 3 ∷ []) ∷ (one_row 2 3 ∷ []) ∷ (one_row 0 1 ∷ [])
+    ∷ [] ∷ []
+unfolding digits
+uses_are_apart = refl
+
+abbrev below : List (Option (List ℕ)) → List (List Row)
+below paths =
+    map (λ under. rows_below (enabled_by 3) under (rows_of (enabled_by 3) one_wave)) paths
+
+-- of A<0:1> one bit may be below a path, or both
+pub some_are_below : below (Some (codes "A") ∷ Some (codes "A<0>") ∷ Some (codes "A<1")
+    ∷ Some (codes "Z<0>0") ∷ [])
+    ≡ (one_row 0 2 ∷ []) ∷ (one_row 0 1 ∷ []) ∷ (one_row 1 2 ∷ []) ∷ [] ∷ []
+unfolding digits
+some_are_below = refl
+
+pub all_are_below : below (None ∷ Some [] ∷ [])
+    ≡ (one_row 2 3 ∷ one_row 3 4 ∷ one_row 0 2 ∷ []) ∷ (one_row 2 3 ∷ one_row 3 4 ∷ one_row 0 2 ∷ [])
+    ∷ []
+unfolding digits
+all_are_below = refl
+
+pub are_there : map (has_below (enabled_by 3)) (None ∷ Some [] ∷ Some (codes "Z<0>")
+    ∷ Some (codes "Z<0>0") ∷ Some (codes "a") ∷ [])
+    ≡ true ∷ true ∷ true ∷ false ∷ false ∷ []
+unfolding digits
+are_there = refl
+
+-- without nets none is below any path
+pub are_none : map (has_below (circuit [] [] [])) (None ∷ Some [] ∷ []) ≡ true ∷ false ∷ []
+are_none = refl
+
+-- ---- the next bit of the same name follows, and no other: not a lower one, nor one after a gap
 abbrev bits : List Net → Circuit
 bits nets = circuit nets [] (0 ∷ 1 ∷ 2 ∷ 3 ∷ 4 ∷ [])
 

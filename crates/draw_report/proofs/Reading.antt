@@ -7,7 +7,7 @@ use Rattle.std.specs.Str.{bytes_eq}
 use Rattle.std.proofs.lemmas.Bool.{and_parts, cases_Bool, eqb-true}
 use Rattle.std.proofs.lemmas.Bool.Decides.{nat_tests}
 use Rattle.draw_report.specs.declared.style.TheConstants.{STYLE}
-use Rattle.draw_report.specs.Element.{BarePath, Break, Byte, Chars, Circle, Defs, Element, Group, Kind, Label, Line, Look, Marker, MovedPath, Node, Nodes, Number, Path, Pattern, ReadsBack, Rect, Style, Svg, Text, Title, Word, WritesDocuments, attributes_of, attributes_onto, begun, cons, ended, escape, escaped, keys_of, legible, legible_word, legible_words, nil, node_onto, nodes_onto, tag_of, tree_of, trees_of, word_text, words_text}
+use Rattle.draw_report.specs.Element.{BarePath, Body, Break, Byte, Chars, Circle, Defs, Element, Group, Head, Heading, Hidden, Html, Kind, Label, Line, Lines, Link, Look, Marker, MovedPath, Node, Nodes, Number, Path, Pattern, ReadsBack, Rect, Section, Style, Svg, Text, Title, Word, WritesDocuments, attributes_of, attributes_onto, begun, cons, ended, escape, escaped, keys_of, legible, legible_word, legible_words, nil, node_onto, nodes_onto, tag_of, tree_of, trees_of, word_text, words_text}
 use Rattle.draw_report.specs.Xml.{Bytes, Reads, ReadsAttributes, ReadsText, Tag, Trees, amp, element, empty, entity, gt, is_name, is_named, is_plain, is_plain_text, is_printable, lt, no_attribute, no_text, none, nothing, one_more, plain, quot, text, tree}
 use Rattle.draw_report.proofs.Texts.{words_rest}
 use Rattle.draw_report.proofs.Writing.{begun_rest, nodes_rest}
@@ -130,6 +130,14 @@ kinds_fit BarePath = refl
 kinds_fit Group = refl
 kinds_fit Label = refl
 kinds_fit Line = refl
+kinds_fit Html = refl
+kinds_fit Head = refl
+kinds_fit Body = refl
+kinds_fit Heading = refl
+kinds_fit Lines = refl
+kinds_fit Section = refl
+kinds_fit Link = refl
+kinds_fit Hidden = refl
 
 -- the names of attributes are among the keys
 not_named : (name : List ℕ) (keys : List (List ℕ)) (values : List (List Word)) →

@@ -12,9 +12,10 @@ use Rattle.timing_analysis.specs.Settled.{IsSettledCase, settled_case}
 use Rattle.program_call.specs.Reporter.{OfCases}
 use Rattle.program_call.proofs.Reporting.{of_more}
 use Rattle.draw_report.specs.Picture.{case_drawn}
-use Rattle.draw_report.specs.declared.reply.Found.{Found}
-use Rattle.draw_report.specs.declared.reply.Found.TheVariants.{Much, Nothing, Picture}
-use Rattle.draw_report.specs.declared.reply.Sought.{Sought}
+use Rattle.draw_report.specs.Row.{rows_of}
+use Rattle.draw_report.specs.declared.sought.Found.{Found}
+use Rattle.draw_report.specs.declared.sought.Found.TheVariants.{Much, Nothing, Picture}
+use Rattle.draw_report.specs.declared.sought.Sought.{Sought}
 use Rattle.draw_report.specs.Case.{IsSought, found_among, found_in, found_on, head_of, is_nothing, is_numbered, next_found, number_of, picture_in, settled_head}
 
 -- both hold of what is given
@@ -80,7 +81,8 @@ module _ (c : Circuit) (base : ℕ) where
       next_found (found_in c base found) is_asked (found_in c base (Some case))
       ≡ found_in c base (or_last found is_asked case)
   next_is (Some one) is_asked case =
-      drawn_stays (case_drawn c one.waves (head_of c base one) []) is_asked (found_in c base (Some case))
+      drawn_stays (case_drawn c one.waves (rows_of c one.waves) (head_of c base one) [] None) is_asked
+      (found_in c base (Some case))
   next_is None true case = refl
   next_is None false case = refl
 

@@ -48,16 +48,23 @@ pub IfOk-both : {T E : Type 0} {P Q R : T → Type 0} (r : Result T E) → IfOk 
 IfOk-both (Ok x) p q h = h x p q
 IfOk-both (Err e) p q h = tt
 
--- what two texts on an empty paper are in the end
+-- what a text on an empty paper is in the end
+pub done_all : {E : Type 0} (result : Result (List ℕ) E) (empty full : Paper) (all : List ℕ) →
+    empty.bytes ≡ [] → Adds empty full all → IfOk result (λ bytes. full.failed ≡ false) →
+    IfOk result (λ bytes. bytes ≡ full.bytes) → IfOk result (λ bytes. bytes ≡ all)
+done_all result empty full all none put fine done =
+    IfOk-both result fine done (λ bytes ok same.
+    same ∙ (put ok).1 ∙ ap (λ (l : List ℕ). l ++ all) none)
+
 pub done_text : {E : Type 0} (result : Result (List ℕ) E) (empty between full : Paper)
     (first second all : List ℕ) → empty.bytes ≡ [] → Adds empty between first →
     Adds between full second → IfOk result (λ bytes. full.failed ≡ false) →
     IfOk result (λ bytes. bytes ≡ full.bytes) → first ++ second ≡ all →
     IfOk result (λ bytes. bytes ≡ all)
 done_text result empty between full first second all none a b fine done is =
-    IfOk-both result fine done (λ bytes ok same.
-    same ∙ (adds_two empty between full first second a b ok).1
-    ∙ ap (λ (l : List ℕ). l ++ (first ++ second)) none ∙ is)
+    done_all result empty full all none
+    (adds_same empty full (first ++ second) all is (adds_two empty between full first second a b))
+    fine done
 
 -- the texts of the items of a list, one more
 pub adds_item : {X : Type 0} (f : X → List ℕ) (xs : List X) (i : ℕ) (d : X)

@@ -10,11 +10,12 @@ use Rattle.program_call.specs.Answer.{verdict_of}
 use Rattle.program_call.specs.Reporter.{OfCases}
 use Rattle.draw_report.specs.declared.case.CaseHead.{CaseHead}
 use Rattle.draw_report.specs.Picture.{case_drawn}
+use Rattle.draw_report.specs.Row.{rows_of}
 use Rattle.draw_report.specs.declared.outcome.DrawOutcome.{DrawOutcome}
 use Rattle.draw_report.specs.declared.outcome.DrawOutcome.TheVariants.{Drawing, NoCase, TooMuch}
-use Rattle.draw_report.specs.declared.reply.Found.{Found}
-use Rattle.draw_report.specs.declared.reply.Found.TheVariants.{Nothing, Picture, Much}
-use Rattle.draw_report.specs.declared.reply.Sought.{Sought}
+use Rattle.draw_report.specs.declared.sought.Found.{Found}
+use Rattle.draw_report.specs.declared.sought.Found.TheVariants.{Nothing, Picture, Much}
+use Rattle.draw_report.specs.declared.sought.Sought.{Sought}
 
 abbrev pub is_numbered : ℕ → Case → Bool
 is_numbered number case = case.listed.number == number
@@ -37,7 +38,7 @@ picture_in (Some bytes) = Picture bytes
 
 -- in these waves, with this head
 abbrev pub found_on : Circuit → Waves → CaseHead → Found
-found_on c ws head = picture_in (case_drawn c ws head [])
+found_on c ws head = picture_in (case_drawn c ws (rows_of c ws) head [] None)
 
 abbrev pub found_in : Circuit → ℕ → Option Case → Found
 found_in c base None = Nothing

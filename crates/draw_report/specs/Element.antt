@@ -22,6 +22,14 @@ pub data Kind : Type 0 where
   Group : Kind
   Label : Kind
   Line : Kind
+  Html : Kind
+  Head : Kind
+  Body : Kind
+  Heading : Kind
+  Lines : Kind
+  Section : Kind
+  Hidden : Kind
+  Link : Kind
 
 abbrev pub tag_of : Kind → List ℕ
 tag_of Svg = codes "svg"
@@ -38,6 +46,14 @@ tag_of BarePath = codes "path"
 tag_of Group = codes "g"
 tag_of Label = codes "text"
 tag_of Line = codes "text"
+tag_of Html = codes "html"
+tag_of Head = codes "head"
+tag_of Body = codes "body"
+tag_of Heading = codes "h1"
+tag_of Lines = codes "pre"
+tag_of Section = codes "section"
+tag_of Hidden = codes "svg"
+tag_of Link = codes "a"
 
 abbrev pub keys_of : Kind → List (List ℕ)
 keys_of Svg = codes "xmlns" ∷ codes "width" ∷ codes "height" ∷ codes "viewBox" ∷ []
@@ -56,6 +72,14 @@ keys_of BarePath = codes "d" ∷ []
 keys_of Group = codes "transform" ∷ []
 keys_of Label = codes "class" ∷ codes "x" ∷ codes "y" ∷ []
 keys_of Line = codes "x" ∷ codes "y" ∷ []
+keys_of Html = codes "xmlns" ∷ []
+keys_of Head = []
+keys_of Body = []
+keys_of Heading = []
+keys_of Lines = []
+keys_of Section = codes "id" ∷ []
+keys_of Hidden = codes "xmlns" ∷ codes "width" ∷ codes "height" ∷ []
+keys_of Link = codes "href" ∷ []
 
 -- ---- texts, and values of attributes: numbers, and bytes, escaped where XML gives them a meaning
 

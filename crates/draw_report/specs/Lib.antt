@@ -6,12 +6,16 @@ pub mod Shape
 pub mod Wave
 pub mod Shown
 pub mod Row
+pub mod Below
 pub mod Grid
 pub mod Mark
 pub mod Caption
 pub mod Defs
 pub mod Picture
+pub mod Page
 pub mod Words
 pub mod Outcome
+pub mod Plan
 pub mod Case
+pub mod Drawn
 pub mod Answer

@@ -1,7 +1,7 @@
 -- The marks of a picture: what a checker watches, what offends, and the way there. Ticks count as
 -- the slots of the view do.
 use Rattle.std.specs.Prelude.{◌≡◌, ℕ, ◌≤◌, ◌+◌, ◌-◌, ◌*◌, ◌==◌, ◌&&◌, max, min, nat_le, nat_lt, Bool, true, false, List, [], ◌∷◌, length, codes, slice_index_or, if◌then◌else◌}
-use Rattle.std.specs.List.{count_by, list_all}
+use Rattle.std.specs.List.{count_by, flat_map, list_all, list_any}
 use Rattle.step_values.specs.declared.value.Value.{Value}
 use Rattle.draw_report.specs.declared.mark.Layout.{Layout}
 use Rattle.draw_report.specs.declared.mark.Mark.{Mark}
@@ -13,7 +13,7 @@ use Rattle.draw_report.specs.declared.mark.Span.{Span}
 use Rattle.draw_report.specs.declared.mark.Spot.{Spot}
 use Rattle.draw_report.specs.declared.shape.Stroke.{Stroke}
 use Rattle.draw_report.specs.declared.view.View.{View}
-use Rattle.draw_report.specs.Element.{Break, Chars, Label, MovedPath, Node, Number, Word, empty, labelled}
+use Rattle.draw_report.specs.Element.{Break, Chars, Label, Link, MovedPath, Node, Number, Text, Word, empty, full, labelled}
 use Rattle.draw_report.specs.Shape.{area, shape}
 use Rattle.draw_report.specs.View.{after_last, line_x, plot, scale, x_of}
 use Rattle.draw_report.specs.Wave.{path}
@@ -54,7 +54,7 @@ area_path v class s =
 abbrev pub window_in : View → ℕ → Mark → List Node
 window_in v row (Window s) = if s.row == row then area_path v (codes "win") s else []
 window_in v row (Bad s) = []
-window_in v row (Flag r number) = []
+window_in v row (Flag r number is_link) = []
 window_in v row (Edge tick r other) = []
 window_in v row (Change spot value side) = []
 window_in v row (Arrow from to side) = []
@@ -64,28 +64,49 @@ window_in v row (Distance span) = []
 abbrev pub bad_in : View → ℕ → Mark → List Node
 bad_in v row (Window s) = []
 bad_in v row (Bad s) = if s.row == row then area_path v (codes "bad") s else []
-bad_in v row (Flag r number) = []
+bad_in v row (Flag r number is_link) = []
 bad_in v row (Edge tick r other) = []
 bad_in v row (Change spot value side) = []
 bad_in v row (Arrow from to side) = []
 bad_in v row (Note spot text side) = []
 bad_in v row (Distance span) = []
 
-abbrev pub flag : View → ℕ → Node
-flag v number =
-    labelled Label
-    ((Chars (codes "r") ∷ []) ∷ (Number (plot v + 700) ∷ []) ∷ (Chars (codes "160") ∷ []) ∷ [])
-    (Chars (codes "fault ") ∷ Number number ∷ [])
+-- the number of a fault, which leads to its picture where that is on the page
+abbrev pub flag_number : ℕ → Bool → Node
+flag_number number is_link =
+    if is_link
+    then labelled Link ((Chars (codes "#f") ∷ Number number ∷ []) ∷ [])
+    (Chars (codes " ") ∷ Number number ∷ [])
+    else Text (Chars (codes " ") ∷ Number number ∷ [])
 
-abbrev pub flag_in : View → ℕ → Mark → List Node
-flag_in v row (Window s) = []
-flag_in v row (Bad s) = []
-flag_in v row (Flag r number) = if r == row then flag v number ∷ [] else []
-flag_in v row (Edge tick r other) = []
-flag_in v row (Change spot value side) = []
-flag_in v row (Arrow from to side) = []
-flag_in v row (Note spot text side) = []
-flag_in v row (Distance span) = []
+abbrev pub flag_in : ℕ → Mark → List Node
+flag_in row (Window s) = []
+flag_in row (Bad s) = []
+flag_in row (Flag r number is_link) = if r == row then flag_number number is_link ∷ [] else []
+flag_in row (Edge tick r other) = []
+flag_in row (Change spot value side) = []
+flag_in row (Arrow from to side) = []
+flag_in row (Note spot text side) = []
+flag_in row (Distance span) = []
+
+abbrev pub is_flag : ℕ → Mark → Bool
+is_flag row (Window s) = false
+is_flag row (Bad s) = false
+is_flag row (Flag r number is_link) = r == row
+is_flag row (Edge tick r other) = false
+is_flag row (Change spot value side) = false
+is_flag row (Arrow from to side) = false
+is_flag row (Note spot text side) = false
+is_flag row (Distance span) = false
+
+-- the numbers of a row's faults, right of it
+abbrev pub flags : View → ℕ → List Mark → List Node
+flags v row marks =
+    if list_any (is_flag row) marks
+    then full Label
+    ((Chars (codes "r") ∷ []) ∷ (Number (plot v + 700) ∷ []) ∷ (Chars (codes "160") ∷ []) ∷ [])
+    (Text (Chars (codes "fault") ∷ []) ∷ flat_map (flag_in row) marks) ∷ []
+    else []
 
 -- ---- over the rows
 
@@ -183,7 +204,7 @@ text_of texts number = slice_index_or texts number []
 abbrev pub mark_nodes : View → Layout → List (List ℕ) → Mark → List Node
 mark_nodes v l texts (Window s) = []
 mark_nodes v l texts (Bad s) = []
-mark_nodes v l texts (Flag r number) = []
+mark_nodes v l texts (Flag r number is_link) = []
 mark_nodes v l texts (Edge tick row other) = edge_path v l tick row other
 mark_nodes v l texts (Change spot value side) = change_path v l spot value side
 mark_nodes v l texts (Arrow from to side) = arrow_path v l from to side
@@ -193,7 +214,7 @@ mark_nodes v l texts (Distance s) = distance v l s (text_of texts s.text)
 abbrev pub is_distance : Mark → Bool
 is_distance (Window s) = false
 is_distance (Bad s) = false
-is_distance (Flag r number) = false
+is_distance (Flag r number is_link) = false
 is_distance (Edge tick r other) = false
 is_distance (Change spot value side) = false
 is_distance (Arrow from to side) = false
@@ -212,7 +233,7 @@ is_near tick = nat_lt tick 1073741824
 abbrev pub is_within : ℕ → Mark → Bool
 is_within rows (Window s) = nat_lt s.row rows && is_near s.to
 is_within rows (Bad s) = nat_lt s.row rows && is_near s.to
-is_within rows (Flag r number) = nat_lt r rows
+is_within rows (Flag r number is_link) = nat_lt r rows
 is_within rows (Edge tick row other) = is_near tick && (nat_lt row rows && nat_lt other rows)
 is_within rows (Change spot value side) = is_near spot.tick && nat_lt spot.row rows
 is_within rows (Arrow from to side) =

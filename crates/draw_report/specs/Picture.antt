@@ -1,5 +1,5 @@
 -- Whole pictures.
-use Rattle.std.specs.Prelude.{◌≡◌, ℕ, ◌+◌, ◌*◌, ◌/◌, ◌≤◌, ◌||◌, max, nat_lt, Bool, List, [], ◌∷◌, ◌++◌, length, map, codes, decimal, fold, if◌then◌else◌, Option, Some, None}
+use Rattle.std.specs.Prelude.{◌≡◌, ℕ, ◌+◌, ◌*◌, ◌/◌, ◌^◌, ◌<◌, ◌≤◌, ◌||◌, max, nat_lt, Bool, List, [], ◌∷◌, ◌++◌, length, map, codes, decimal, fold, if◌then◌else◌, Option, Some, None, IfSome}
 use Rattle.std.specs.List.{concat, flat_map, sum_by, zip}
 use Rattle.step_values.specs.declared.value.Value.{Value}
 use Rattle.skew_algebra.specs.Wave.{Wave}
@@ -18,9 +18,9 @@ use Rattle.draw_report.specs.Element.{Break, Chars, Group, Label, Look, Node, Nu
 use Rattle.draw_report.specs.Defs.{defs}
 use Rattle.draw_report.specs.View.{IsView, plot}
 use Rattle.draw_report.specs.Wave.{late_paths, run_words, runs_from, shaded_paths, wave_paths}
-use Rattle.draw_report.specs.Row.{label, rows_of, shown, shown_length}
+use Rattle.draw_report.specs.Row.{label, shown, shown_length}
 use Rattle.draw_report.specs.Grid.{grid_nodes}
-use Rattle.draw_report.specs.Mark.{AreOn, bad_in, counted_length, distance_count, flag_in, mark_nodes, window_in, y_of}
+use Rattle.draw_report.specs.Mark.{AreOn, bad_in, counted_length, distance_count, flags, mark_nodes, window_in, y_of}
 use Rattle.draw_report.specs.Caption.{AreShort, caption_nodes}
 
 -- What a picture shows: the part of the time line, how its rows are laid out, the heading, the rows
@@ -34,6 +34,7 @@ pub record Sketch : Type 0 where
   pub marks : List Mark
   pub texts : List (List ℕ)
   pub caption : List (List ℕ)
+  pub page : Option ℕ
 
 abbrev pub layout_of : Sketch → Layout
 layout_of s = record { rows = length s.waves; pitch = s.pitch }
@@ -47,6 +48,7 @@ pub record IsSketch (s : Sketch) : Type 0 where
   pub marks : AreOn (length s.waves) s.marks
   pub few_lines : length s.caption ≤ 65536
   pub short_lines : AreShort s.caption
+  pub room : IfSome s.page (λ room. room < 2 ^ 32)
 
 -- ---- a row
 
@@ -83,7 +85,7 @@ row_nodes v marks place w =
     ++ (if_skewed w (late_paths v w)
     ++ (wave_paths v w.cells
     ++ (flat_map (bad_in v place) marks
-    ++ (skew_texts v w.skew ++ flat_map (flag_in v place) marks)))))
+    ++ (skew_texts v w.skew ++ flags v place marks)))))
 
 abbrev pub moved_down : ℕ → List (List Word)
 moved_down y = (Chars (codes "translate(0 ") ∷ Number y ∷ Chars (codes ")") ∷ []) ∷ []
@@ -112,6 +114,14 @@ longest_shown labels = fold (λ (most : ℕ) (text : List ℕ). max most (shown_
 abbrev pub label_room : List (List ℕ) → ℕ
 label_room labels = 72 * longest_shown labels + 160
 
+-- that of the page, if it is more
+abbrev pub room_in : Option ℕ → ℕ → ℕ
+room_in None own = own
+room_in (Some room) own = max room own
+
+abbrev pub sketch_room : Sketch → ℕ
+sketch_room s = room_in s.page (label_room s.labels)
+
 -- the rows and the distances below them
 abbrev pub grid_of : Layout → List Mark → ℕ
 grid_of l marks = y_of l l.rows + 170 * distance_count marks
@@ -127,7 +137,7 @@ abbrev pub grid_height : Sketch → ℕ
 grid_height s = grid_of (layout_of s) s.marks
 
 abbrev pub full_width : Sketch → ℕ
-full_width s = width_of (label_room s.labels) (plot s.view) s.heading s.caption
+full_width s = width_of (sketch_room s) (plot s.view) s.heading s.caption
 
 abbrev pub full_height : Sketch → ℕ
 full_height s = height_of (grid_height s) s.caption
@@ -148,14 +158,16 @@ heading_text text =
     ((Chars (codes "h") ∷ []) ∷ (Chars (codes "60") ∷ []) ∷ (Chars (codes "190") ∷ []) ∷ [])
     (Chars text ∷ [])
 
+-- how it looks, which a page says once
+abbrev pub looks : Option ℕ → List Node
+looks None = full Style [] (Look ∷ []) ∷ Break ∷ defs ∷ Break ∷ []
+looks (Some room) = []
+
 -- before the plot
-abbrev pub front : ℕ → ℕ → List ℕ → List Node
-front w h heading =
+abbrev pub front : Option ℕ → ℕ → ℕ → List ℕ → List Node
+front page w h heading =
     Break ∷ labelled Title [] (Chars heading ∷ [])
-    ∷ Break ∷ full Style [] (Look ∷ [])
-    ∷ Break ∷ defs
-    ∷ Break ∷ background w h
-    ∷ Break ∷ heading_text heading ∷ Break ∷ []
+    ∷ Break ∷ (looks page ++ (background w h ∷ Break ∷ heading_text heading ∷ Break ∷ []))
 
 -- the grid, the rows and what stands over them
 abbrev pub plotted : Sketch → List Node
@@ -169,20 +181,23 @@ moved_right x = (Chars (codes "translate(") ∷ Number x ∷ Chars (codes " 600)
 
 abbrev pub within : Sketch → List Node
 within s =
-    front (full_width s) (full_height s) s.heading
-    ++ (full Group (moved_right (label_room s.labels)) (plotted s)
+    front s.page (full_width s) (full_height s) s.heading
+    ++ (full Group (moved_right (sketch_room s)) (plotted s)
     ∷ Break ∷ caption_nodes (600 + grid_height s) s.caption)
+
+abbrev pub picture_node : Sketch → Node
+picture_node s = full Svg (size (full_width s) (full_height s)) (within s)
 
 -- The picture of a sketch: a document of XML.
 abbrev pub picture : Sketch → List ℕ
-picture s = node_onto (full Svg (size (full_width s) (full_height s)) (within s)) (10 ∷ [])
+picture s = node_onto (picture_node s) (10 ∷ [])
 
 -- ---- in three parts: up to the plot, the plot, and what follows
 
-abbrev pub head_text : ℕ → ℕ → ℕ → List ℕ → List ℕ
-head_text w h x heading =
+abbrev pub head_text : Option ℕ → ℕ → ℕ → ℕ → List ℕ → List ℕ
+head_text page w h x heading =
     begun_text Svg (size w h)
-    ++ (all_written (front w h heading) ++ begun_text Group (moved_right x))
+    ++ (all_written (front page w h heading) ++ begun_text Group (moved_right x))
 
 abbrev pub tail_text : ℕ → List (List ℕ) → List ℕ
 tail_text y lines =
@@ -221,8 +236,9 @@ abbrev pub row_waves : Circuit → Waves → List Row → List (Wave Value)
 row_waves c ws rows = map (wave_of c ws) rows
 
 -- the sketch of rows of a case with these waves
-abbrev pub row_sketch : Circuit → List Row → List (Wave Value) → CaseHead → List Mark → Sketch
-row_sketch c rows ws head marks =
+abbrev pub row_sketch : Circuit → List Row → List (Wave Value) → CaseHead → List Mark →
+    Option ℕ → Sketch
+row_sketch c rows ws head marks page =
     record {
       view = case_view c;
       pitch = 270;
@@ -232,10 +248,12 @@ row_sketch c rows ws head marks =
       marks = marks;
       texts = [];
       caption = [];
+      page = page;
     }
 
-abbrev pub case_sketch : Circuit → Waves → CaseHead → List Mark → Sketch
-case_sketch c ws head marks = row_sketch c (rows_of c ws) (row_waves c ws (rows_of c ws)) head marks
+-- the sketch of rows of a case with the waves that they have there
+abbrev pub case_sketch : Circuit → Waves → List Row → CaseHead → List Mark → Option ℕ → Sketch
+case_sketch c ws rows head marks page = row_sketch c rows (row_waves c ws rows) head marks page
 
 -- ---- how much is drawn
 
@@ -251,19 +269,21 @@ abbrev pub are_many : Circuit → Waves → List Row → Bool
 are_many c ws rows =
     nat_lt 8192 (length rows) || are_many_runs (2 * period c.header) (row_waves c ws rows)
 
--- The picture of a case with these waves and marks, unless it is too much.
-abbrev pub case_drawn : Circuit → Waves → CaseHead → List Mark → Option (List ℕ)
-case_drawn c ws head marks =
-    if are_many c ws (rows_of c ws) then None
-    else Some (picture (case_sketch c ws head marks))
+-- The picture of rows of a case with these waves and marks, unless it is too much.
+abbrev pub case_drawn : Circuit → Waves → List Row → CaseHead → List Mark → Option ℕ →
+    Option (List ℕ)
+case_drawn c ws rows head marks page =
+    if are_many c ws rows then None
+    else Some (picture (case_sketch c ws rows head marks page))
 
 -- ---- in the program
 
 abbrev pub frame_of : Drawn → Layout → Frame
 frame_of d l =
     record {
-      left = label_room d.labels.now;
-      width = width_of (label_room d.labels.now) (plot d.view) d.heading.now d.caption.now;
+      left = room_in d.page (label_room d.labels.now);
+      width = width_of (room_in d.page (label_room d.labels.now)) (plot d.view) d.heading.now
+          d.caption.now;
       height = height_of (grid_of l d.marks.now) d.caption.now;
       grid = grid_of l d.marks.now;
     }
@@ -279,4 +299,5 @@ sketched d ws =
       marks = d.marks.now;
       texts = d.texts.now;
       caption = d.caption.now;
+      page = d.page;
     }

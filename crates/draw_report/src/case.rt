@@ -1,11 +1,11 @@
 //! The picture of the waves of a case over two periods.
 
-ghost use Rattle.std.specs.Prelude.{◌≡◌, ◌<◌, ◌≤◌, ◌^◌, length, IfOk};
+ghost use Rattle.std.specs.Prelude.{◌≡◌, ◌<◌, ◌≤◌, ◌^◌, length, IfOk, IfSome};
 ghost use Rattle.fixpoint_engine.specs.Waves.{FitWaves, waves_of};
 ghost use Rattle.draw_report.specs.Mark.{AreOn};
 ghost use Rattle.draw_report.specs.Paper.{Adds};
 ghost use Rattle.draw_report.specs.Picture.{are_many_runs, case_drawn, case_heading, case_text, case_view, picture, row_sketch, row_waves};
-ghost use Rattle.draw_report.specs.Row.{AreInside, rows_of};
+ghost use Rattle.draw_report.specs.Row.{AreInside};
 ghost use Rattle.draw_report.specs.View.{IsView};
 
 use crate::label::labels_of;
@@ -35,7 +35,7 @@ const MOST_RUNS: usize = 262_144;
 
 /// What is said of a case above its picture: its number where there are cases, and the tick from
 /// which on its waves hold.
-#[derive(Clone, Copy, Debug)]
+#[derive(Clone, Copy)]
 pub struct CaseHead {
     pub number: Option<u32>,
     pub tick: u64,
@@ -130,12 +130,14 @@ fn picture_of_rows<W: CyclicWave<Item = Value>>(
     waves: &[Skewed<W>],
     head: CaseHead,
     marks: &[Mark],
+    page: Option<u64>,
 ) -> Result<Bytes, NoMemory>
     requires rows { length waves.now ≡ length rows.now }
     requires few { length rows.now ≤ 8192 }
     requires marks { AreOn (length rows.now) marks.now }
+    requires room { IfSome page (λ room. room < 2 ^ 32) }
     ensures { IfOk result (λ bytes. bytes ≡ picture (row_sketch c.now rows.now waves.now head
-        marks.now)) }
+        marks.now page)) }
 {
     let heading = heading_of(alloc, c, head)?;
     let labels = labels_of(alloc, c, rows)?;
@@ -147,11 +149,12 @@ fn picture_of_rows<W: CyclicWave<Item = Value>>(
         marks,
         texts: &[],
         caption: &[],
+        page,
     };
     picture_of(alloc, &sketch, waves)
 }
 
-/// The picture of the waves of a case over two periods, with marks on its rows; `None` where there
+/// The picture of rows of a case over two periods, with marks on them; `None` where there
 /// is too much to draw: more than 8,192 rows or 262,144 runs. `NoMemory` comes if memory runs out.
 pub fn case_picture<W: CyclicWave<Item = Value>>(
     alloc: Global,
@@ -160,12 +163,14 @@ pub fn case_picture<W: CyclicWave<Item = Value>>(
     rows: &[Row],
     head: CaseHead,
     marks: &[Mark],
+    page: Option<u64>,
 ) -> Result<Option<Bytes>, NoMemory>
     requires fit { FitWaves c.now waves.now }
-    requires rows { rows.now ≡ rows_of c.now (waves_of waves.now) }
+    requires inside { AreInside c.now rows.now }
     requires marks { AreOn (length rows.now) marks.now }
+    requires room { IfSome page (λ room. room < 2 ^ 32) }
     ensures { IfOk result (λ drawn.
-        drawn ≡ case_drawn c.now (waves_of waves.now) head marks.now) }
+        drawn ≡ case_drawn c.now (waves_of waves.now) rows.now head marks.now page) }
 {
     if rows.len() > MOST_ROWS {
         return Ok(None);
@@ -174,6 +179,6 @@ pub fn case_picture<W: CyclicWave<Item = Value>>(
     if are_many_runs(alloc, some.as_slice(), view_of(c).count)? {
         return Ok(None);
     }
-    let bytes = picture_of_rows(alloc, c, rows, some.as_slice(), head, marks)?;
+    let bytes = picture_of_rows(alloc, c, rows, some.as_slice(), head, marks, page)?;
     Ok(Some(bytes))
 }

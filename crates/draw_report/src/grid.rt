@@ -20,7 +20,7 @@ const STEPS: [u32; 12] = [1, 2, 5, 10, 20, 50, 100, 200, 500, 1000, 2000, 5000];
 const MOST_STEP: u32 = 10_000;
 
 /// What a line stands for.
-#[derive(Clone, Copy, PartialEq, Eq, Debug)]
+#[derive(Clone, Copy)]
 pub enum Ruled {
     /// The end of a period.
     Periods,

@@ -1,6 +1,6 @@
 //! The labels of rows.
 
-ghost use Rattle.std.specs.Prelude.{◌≡◌, ◌++◌, IfOk, OnOk, map};
+ghost use Rattle.std.specs.Prelude.{◌≡◌, ◌++◌, ◌≤◌, IfOk, OnOk, map};
 ghost use Rattle.draw_report.specs.Element.{words_text};
 ghost use Rattle.draw_report.specs.Paper.{Adds};
 ghost use Rattle.draw_report.specs.Row.{bits_text, label, shown, shown_length};
@@ -8,13 +8,14 @@ ghost use Rattle.draw_report.specs.Row.{bits_text, label, shown, shown_length};
 use crate::name::{bit_at, text_at};
 use crate::paper::{Paper, Piece as Part};
 use crate::row::Row;
-use flat_circuit::Circuit;
+use fixpoint_engine::wire_behind;
+use flat_circuit::{Circuit, Pin, Target};
 use listing::{Piece, add_pieces};
 use scald_base::{Bytes, List, NoMemory};
 use std::alloc::Global;
 
 /// How many bytes of a label are shown.
-const LONGEST: usize = 40;
+pub const LONGEST: usize = 40;
 
 /// How many bytes are shown of a longer one, after two dots.
 const END: usize = 38;
@@ -80,4 +81,77 @@ pub fn shown_length(label: &[u8]) -> usize
     ensures { result ≡ shown_length label.now }
 {
     label.len().min(LONGEST)
+}
+
+/// How many digits a bit has.
+fn digit_count(bit: u16) -> usize
+    ensures { result ≤ 5 }
+{
+    match bit {
+        0..=9 => 1,
+        10..=99 => 2,
+        100..=999 => 3,
+        1000..=9999 => 4,
+        _ => 5,
+    }
+}
+
+/// How many bytes are shown of the label of a row from a bit up to the net at a place.
+fn shown_of(c: &Circuit, low: u16, place: u32) -> usize
+    ensures { result ≤ 40 }
+{
+    let high = bit_at(c, place);
+    let more = if low == high {
+        0
+    } else {
+        1 + digit_count(high)
+    };
+    let bits = 2 + digit_count(low) + more;
+    text_at(c, place).len().saturating_add(bits).min(LONGEST)
+}
+
+/// How many bytes are shown of the longest label that rows of these nets may have, and at least
+/// eight.
+pub fn longest_label(c: &Circuit) -> usize
+    ensures { result ≤ 40 }
+{
+    let mut longest: usize = 8;
+    let mut low = 0;
+    for place in 0..c.net_count() {
+        if place == 0 || text_at(c, place) != text_at(c, place - 1) {
+            low = bit_at(c, place);
+        }
+        longest = longest.max(shown_of(c, low, place));
+    }
+    longest
+}
+
+/// How many bytes the name of a net has with its bit.
+fn net_length(c: &Circuit, net: u32) -> usize {
+    match c.net(net) {
+        Some(found) => {
+            let bit = 2 + digit_count(found.bit);
+            found.name.as_slice().len().saturating_add(bit)
+        }
+        None => 0,
+    }
+}
+
+/// How many bytes are shown of the label of a pin: its net, complemented or not, and the delay of
+/// its wire.
+pub fn pin_length(c: &Circuit, pin: Pin) -> usize
+    ensures { result ≤ 40 }
+{
+    let on = match pin.target {
+        Target::Net(net) => net_length(c, net),
+        Target::Constant(_) => 1,
+    };
+    let sign: usize = if pin.inverted { 1 } else { 0 };
+    let wire = wire_behind(c, pin.target);
+    let after = if wire.max == 0 {
+        0
+    } else {
+        7 + digit_count(wire.min) + digit_count(wire.max)
+    };
+    on.saturating_add(sign + after).min(LONGEST)
 }

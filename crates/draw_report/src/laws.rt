@@ -1,6 +1,7 @@
 //! What holds of pictures, whatever they show.
 
 ghost use Rattle.draw_report.specs.Element.{ReadsBack, WritesDocuments};
+ghost use Rattle.draw_report.specs.Page.{PagesAreWritten};
 ghost use Rattle.draw_report.specs.Row.{RowsAre};
 ghost use Rattle.draw_report.specs.Shown.{RowShowsWave, ShadesSteps};
 
@@ -27,4 +28,9 @@ pub fn rows_show_waves()
 /// A slot is shaded exactly where the wave may step in it, however late it comes.
 pub fn steps_are_shaded()
     ensures { ShadesSteps }
+{}
+
+/// A page of the pictures of sketches is the writing of one tree, so a document of XML too.
+pub fn pages_are_written()
+    ensures { PagesAreWritten }
 {}

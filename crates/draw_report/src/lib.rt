@@ -1,7 +1,8 @@
-//! Pictures of a drawing's waves as SVG, for the word `draw`.
+//! Pictures of a drawing's waves and of its limits as SVG, and pages of them, for the word `draw`.
 //!
-//! The program calls [`draw_main`], the main call of `program_call` for [`DrawProgram`]. The status
-//! is that of the whole drawing, and a refusal comes before what cannot be drawn (`specs/Answer`).
+//! The program calls [`draw_main`], which promises what each main call does (`program_call`). The
+//! status is that of the whole drawing, and a refusal comes before what cannot be drawn
+//! (`specs/Answer`).
 //!
 //! A picture is rows of waves over a grid of ticks, with marks on them. [`case_rows`] and
 //! [`case_picture`] give those of a case over two periods, and [`picture_of`] draws any rows. Bits
@@ -17,6 +18,7 @@ mod paper;
 mod style;
 
 // rows
+mod below;
 mod clock;
 mod label;
 mod name;
@@ -34,8 +36,9 @@ mod caption;
 mod mark;
 mod over;
 
-// the whole picture
+// whole pictures and pages
 mod case;
+mod page;
 mod picture;
 mod sketch;
 mod strip;
@@ -43,22 +46,40 @@ mod strip;
 // what holds of the definitions
 mod laws;
 
+// the picture of a limit, and the marks of limits in that of a case
+mod account;
+mod limit;
+mod limit_picture;
+mod panel;
+mod plan;
+mod way;
+
+// what is asked for, case by case
+mod asked;
+mod collected;
+mod drawn;
+mod job;
+mod pictures;
+mod sheets;
+mod sought;
+
 // the call
+mod call;
 mod outcome;
-mod program;
 mod reply;
 mod request;
 
+pub use call::draw_main;
 pub use case::{CaseHead, case_picture};
 pub use laws::{
-    pictures_are_documents, rows_have_one_wave, rows_show_waves, steps_are_shaded,
-    trees_are_read_back,
+    pages_are_written, pictures_are_documents, rows_have_one_wave, rows_show_waves,
+    steps_are_shaded, trees_are_read_back,
 };
 pub use mark::{Mark, Side, Slots, Span, Spot, marks_on};
 pub use outcome::{DrawOutcome, draw_status};
+pub use page::{Page, page_of};
 pub use paper::{Paper, Piece};
-pub use picture::picture_of;
-pub use program::{DrawProgram, draw_main};
+pub use picture::{picture_of, room_of};
 pub use row::{Row, case_rows};
 pub use sketch::Sketch;
 pub use view::View;

@@ -2,9 +2,9 @@
 //! are put here.
 
 ghost use Rattle.std.specs.Prelude.{◌≡◌, ◌<◌, ◌≤◌, ◌^◌, length, IfOk};
-ghost use Rattle.std.specs.List.{flat_map};
-ghost use Rattle.draw_report.specs.Element.{all_written};
-ghost use Rattle.draw_report.specs.Mark.{AreOn, area_path, bad_in, counted_length, distance_count, flag_in, is_within, side_number, window_in, y_of};
+ghost use Rattle.std.specs.List.{flat_map, list_any};
+ghost use Rattle.draw_report.specs.Element.{all_written, written};
+ghost use Rattle.draw_report.specs.Mark.{AreOn, area_path, bad_in, counted_length, distance_count, flag_in, flag_number, flags, is_flag, is_within, side_number, window_in, y_of};
 ghost use Rattle.draw_report.specs.Paper.{Adds};
 ghost use Rattle.draw_report.specs.View.{IsView};
 
@@ -28,7 +28,7 @@ const MOST_LINES: u32 = 65_536;
 const MOST_MARKS: usize = 65_536;
 
 /// The side that a mark belongs to.
-#[derive(Clone, Copy, PartialEq, Eq, Debug)]
+#[derive(Clone, Copy, PartialEq, Eq)]
 pub enum Side {
     /// The change, or the begin of a pulse.
     Data,
@@ -49,14 +49,14 @@ impl Side {
 }
 
 /// Where a mark stands: a row, from 0, and a tick, counted as the slots of the view are.
-#[derive(Clone, Copy, PartialEq, Eq, Debug)]
+#[derive(Clone, Copy)]
 pub struct Spot {
     pub row: u32,
     pub tick: u32,
 }
 
 /// Slots of a row, from one to another.
-#[derive(Clone, Copy, PartialEq, Eq, Debug)]
+#[derive(Clone, Copy)]
 pub struct Slots {
     pub row: u32,
     pub from: u32,
@@ -64,7 +64,7 @@ pub struct Slots {
 }
 
 /// A distance between two ticks, so many lines below the last row, with the number of its text.
-#[derive(Clone, Copy, PartialEq, Eq, Debug)]
+#[derive(Clone, Copy)]
 pub struct Span {
     pub line: u32,
     pub from: u32,
@@ -74,28 +74,49 @@ pub struct Span {
 }
 
 /// A mark. Texts go by their numbers.
-#[derive(Clone, Copy, Debug)]
+#[derive(Clone, Copy)]
 pub enum Mark {
     /// Slots in which nothing is to change.
     Window(Slots),
     /// Slots in which something does.
     Bad(Slots),
-    /// The number of a fault, at a row.
-    Flag { row: u32, number: u32 },
+    /// The number of a fault, at a row, and whether it leads to the picture of the fault, where
+    /// that is on the page.
+    Flag {
+        row: u32,
+        number: u32,
+        is_link: bool,
+    },
     /// The edge of a check, from its clock's row to its data's.
-    Edge { tick: u32, row: u32, other: u32 },
+    Edge {
+        tick: u32,
+        row: u32,
+        other: u32,
+    },
     /// A change, in the slot that ends at its tick.
-    Change { at: Spot, value: Value, side: Side },
+    Change {
+        at: Spot,
+        value: Value,
+        side: Side,
+    },
     /// From one change to the one that it makes.
-    Arrow { from: Spot, to: Spot, side: Side },
+    Arrow {
+        from: Spot,
+        to: Spot,
+        side: Side,
+    },
     /// What stands beside a change.
-    Note { at: Spot, text: usize, side: Side },
+    Note {
+        at: Spot,
+        text: usize,
+        side: Side,
+    },
     /// A distance.
     Distance(Span),
 }
 
 /// How a picture's rows are laid out: how many there are, and how far from one to the next.
-#[derive(Clone, Copy, Debug)]
+#[derive(Clone, Copy)]
 pub struct Layout {
     pub rows: u32,
     pub pitch: u16,
@@ -187,29 +208,78 @@ pub fn put_all_bad(out: &mut Paper, view: View, marks: &[Mark], place: u32)
     }
 }
 
-/// A mark, if it is the number of a fault of a row.
-fn put_flag(out: &mut Paper, view: View, place: u32, mark: Mark)
-    ensures { Adds out.old out.new (all_written (flag_in view place mark)) }
+/// The number of a fault, which leads to its picture if that is on the page.
+fn put_number(out: &mut Paper, number: u32, is_link: bool)
+    ensures { Adds out.old out.new (written (flag_number number is_link)) }
 {
-    if let Mark::Flag { row, number } = mark {
+    let number = Piece::Number(u64::from(number));
+    if is_link {
+        out.put(&[
+            Piece::Markup(b"<a href=\"#f"),
+            number,
+            Piece::Markup(b"\"> "),
+            number,
+            Piece::Markup(b"</a>"),
+        ]);
+    } else {
+        out.put(&[Piece::Markup(b" "), number]);
+    }
+}
+
+/// A mark, if it is the number of a fault of a row.
+fn put_flag(out: &mut Paper, place: u32, mark: Mark)
+    ensures { Adds out.old out.new (all_written (flag_in place mark)) }
+{
+    if let Mark::Flag {
+        row,
+        number,
+        is_link,
+    } = mark
+    {
         if row == place {
-            out.put(&[
-                Piece::Markup(b"<text class=\"r\" x=\""),
-                Piece::Number(view.plot() + 700),
-                Piece::Markup(b"\" y=\"160\">fault "),
-                Piece::Number(u64::from(number)),
-                Piece::Markup(b"</text>"),
-            ]);
+            put_number(out, number, is_link);
         }
     }
 }
 
 /// The numbers of the faults of a row.
-pub fn put_flags(out: &mut Paper, view: View, marks: &[Mark], place: u32)
-    ensures { Adds out.old out.new (all_written (flat_map (flag_in view place) marks.now)) }
+fn put_numbers(out: &mut Paper, marks: &[Mark], place: u32)
+    ensures { Adds out.old out.new (all_written (flat_map (flag_in place) marks.now)) }
 {
     for mark in marks {
-        put_flag(out, view, place, *mark);
+        put_flag(out, place, *mark);
+    }
+}
+
+/// Whether a mark is the number of a fault of a row.
+fn is_flag(place: u32, mark: Mark) -> bool
+    ensures { result ≡ is_flag place mark }
+{
+    match mark {
+        Mark::Flag { row, .. } => row == place,
+        _ => false,
+    }
+}
+
+/// Whether a row has a fault.
+fn has_flag(marks: &[Mark], place: u32) -> bool
+    ensures { result ≡ list_any (is_flag place) marks.now }
+{
+    marks.iter().any(|mark| is_flag(place, *mark))
+}
+
+/// The numbers of the faults of a row, if it has some.
+pub fn put_flags(out: &mut Paper, view: View, marks: &[Mark], place: u32)
+    ensures { Adds out.old out.new (all_written (flags view place marks.now)) }
+{
+    if has_flag(marks, place) {
+        out.put(&[
+            Piece::Markup(b"<text class=\"r\" x=\""),
+            Piece::Number(view.plot() + 700),
+            Piece::Markup(b"\" y=\"160\">fault"),
+        ]);
+        put_numbers(out, marks, place);
+        out.put(&[Piece::Markup(b"</text>")]);
     }
 }
 

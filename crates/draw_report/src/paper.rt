@@ -11,7 +11,7 @@ use scald_base::{Bytes, NoMemory};
 use std::alloc::Global;
 
 /// What a text is put together of.
-#[derive(Clone, Copy, Debug)]
+#[derive(Clone, Copy)]
 pub enum Piece<'a> {
     /// These bytes, as they are.
     Markup(&'a [u8]),

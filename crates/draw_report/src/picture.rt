@@ -1,16 +1,16 @@
 //! Whole pictures.
 
-ghost use Rattle.std.specs.Prelude.{◌≡◌, ◌<◌, ◌≤◌, ◌^◌, length, IfOk};
+ghost use Rattle.std.specs.Prelude.{◌≡◌, ◌<◌, ◌≤◌, ◌^◌, length, IfOk, IfSome};
 ghost use Rattle.draw_report.specs.Caption.{AreShort};
 ghost use Rattle.draw_report.specs.Element.{all_written};
 ghost use Rattle.draw_report.specs.Mark.{counted_length};
 ghost use Rattle.draw_report.specs.Paper.{Adds};
 ghost use Rattle.draw_report.specs.Xml.{IsDocument};
-ghost use Rattle.draw_report.specs.Picture.{IsSketch, frame_of, grid_height, head_text, label_room, layout_of, longest, picture, plotted, sketched, tail_text};
+ghost use Rattle.draw_report.specs.Picture.{IsSketch, frame_of, grid_height, head_text, label_room, layout_of, longest, looks, picture, plotted, room_in, sketched, tail_text};
 
 use crate::caption::put_caption;
 use crate::grid::put_grid;
-use crate::label::shown_length;
+use crate::label::{LONGEST, shown_length};
 use crate::mark::{Layout, counted_length, distance_count};
 use crate::over::put_marks;
 use crate::paper::{Paper, Piece};
@@ -44,6 +44,26 @@ fn left(labels: &[Bytes]) -> u64
     BYTE * longest as u64 + 160
 }
 
+/// The room for labels of which so many bytes are shown; of no label more than 40 are.
+pub fn room_of(longest: usize) -> u64
+    ensures { result < 2 ^ 32 }
+{
+    BYTE * longest.min(LONGEST) as u64 + 160
+}
+
+/// The room for labels in a page that has so much, or of a picture alone.
+fn room_in(page: Option<u64>, own: u64) -> u64
+    requires page { IfSome page (λ room. room < 2 ^ 32) }
+    requires own { own < 2 ^ 32 }
+    ensures is { result ≡ room_in page own }
+    ensures small { result < 2 ^ 32 }
+{
+    match page {
+        Some(room) => room.max(own),
+        None => own,
+    }
+}
+
 /// How many bytes of the longest line above or below count.
 fn longest(heading: &[u8], caption: &[Bytes]) -> u64
     ensures is { result ≡ longest (counted_length heading.now) caption.now }
@@ -57,7 +77,7 @@ fn longest(heading: &[u8], caption: &[Bytes]) -> u64
 }
 
 /// How large a picture is, and where its plot begins and ends.
-#[derive(Clone, Copy, Debug)]
+#[derive(Clone, Copy)]
 pub struct Frame {
     pub left: u64,
     pub width: u64,
@@ -69,9 +89,10 @@ pub struct Frame {
 fn frame_of(sketch: &Sketch, layout: Layout) -> Frame
     requires marks { length sketch.now.marks.now ≤ 65536 }
     requires lines { length sketch.now.caption.now ≤ 65536 }
+    requires room { IfSome sketch.now.page (λ room. room < 2 ^ 32) }
     ensures { result ≡ frame_of sketch.now layout }
 {
-    let left = left(sketch.labels);
+    let left = room_in(sketch.page, left(sketch.labels));
     let grid = layout.y(layout.rows) + 170 * distance_count(sketch.marks) as u64;
     Frame {
         left,
@@ -83,9 +104,25 @@ fn frame_of(sketch: &Sketch, layout: Layout) -> Frame
     }
 }
 
+/// The style, the hatches and the heads of arrows, which a page has once.
+fn put_looks(out: &mut Paper, page: Option<u64>)
+    ensures { Adds out.old out.new (all_written (looks page)) }
+{
+    if page.is_none() {
+        out.put(&[
+            Piece::Markup(b"<style>"),
+            Piece::Markup(STYLE),
+            Piece::Markup(b"</style>\n"),
+            Piece::Markup(DEFS),
+            Piece::Markup(b"\n"),
+        ]);
+    }
+}
+
 /// What stands before the plot.
-fn put_head(out: &mut Paper, frame: Frame, heading: &[u8])
-    ensures { Adds out.old out.new (head_text frame.width frame.height frame.left heading.now) }
+fn put_head(out: &mut Paper, frame: Frame, page: Option<u64>, heading: &[u8])
+    ensures { Adds out.old out.new
+        (head_text page frame.width frame.height frame.left heading.now) }
 {
     let Frame {
         left,
@@ -104,11 +141,11 @@ fn put_head(out: &mut Paper, frame: Frame, heading: &[u8])
         Piece::Number(height),
         Piece::Markup(b"\">\n<title>"),
         Piece::Text(heading),
-        Piece::Markup(b"</title>\n<style>"),
-        Piece::Markup(STYLE),
-        Piece::Markup(b"</style>\n"),
-        Piece::Markup(DEFS),
-        Piece::Markup(b"\n<rect class=\"bg\" width=\""),
+        Piece::Markup(b"</title>\n"),
+    ]);
+    put_looks(out, page);
+    out.put(&[
+        Piece::Markup(b"<rect class=\"bg\" width=\""),
         Piece::Number(width),
         Piece::Markup(b"\" height=\""),
         Piece::Number(height),
@@ -168,7 +205,7 @@ fn put_picture<W: CyclicWave<Item = Value>>(
         pitch: sketch.pitch,
     };
     let frame = frame_of(sketch, layout);
-    put_head(out, frame, sketch.heading);
+    put_head(out, frame, sketch.page, sketch.heading);
     put_plot(alloc, out, sketch, layout, frame.grid, waves);
     put_tail(out, sketch.caption, HEADER + frame.grid);
 }

@@ -1,177 +1,44 @@
-//! From a text to a picture of one of its cases.
+//! From a text to the reply.
 
-ghost use Rattle.std.specs.Prelude.{◌≡◌, ◌+◌, ◌-◌, ◌*◌, ◌^◌, ◌<◌, ◌≤◌, ◌==◌, List, IfOk, IfErr, IfSome, OnOk, length};
+ghost use Rattle.std.specs.Prelude.{◌≡◌, ◌-◌, ◌^◌, ◌<◌, ◌≤◌, [], IfOk, IfSome, length};
 ghost use Rattle.std.specs.List.{All};
-ghost use Rattle.fixpoint_engine.specs.Table.{AreKnown, waves_at};
-ghost use Rattle.fixpoint_engine.specs.Waves.{FitWaves, waves_of};
+ghost use Rattle.std.specs.Option.{option_copied};
 ghost use Rattle.case_analysis.specs.Case.{NetsExist};
-ghost use Rattle.timing_analysis.specs.Case.{Case, listed_cases, numbered};
-ghost use Rattle.timing_analysis.specs.Ended.{EndsEarly};
-ghost use Rattle.timing_analysis.specs.Settled.{IsBaseIn};
 ghost use Rattle.timing_analysis.specs.Subject.{IsSubject};
 ghost use Rattle.program_call.specs.Answer.{limit_for};
-ghost use Rattle.program_call.specs.Reporter.{OfCases};
-ghost use Rattle.draw_report.specs.Answer.{Draws, DrawsCase};
-ghost use Rattle.draw_report.specs.Case.{IsFoundIn, IsSought, answered, found_on, is_nothing, next_found, number_of, settled_head};
-ghost use Rattle.draw_report.specs.Words.{IsWithin};
+ghost use Rattle.draw_report.specs.Answer.{Draws, DrawsAsked, DrawsCase, DrawsLimits};
+ghost use Rattle.draw_report.specs.Case.{answered};
+ghost use Rattle.draw_report.specs.Drawn.{answered_below};
+ghost use Rattle.draw_report.specs.Words.{IsRow, IsWithin, asking};
 
+use crate::asked::{Asked, Job, Limits};
+use crate::below::has_below;
+use crate::drawn::Drawn;
+use crate::job::{Told, draw_limits};
 use crate::outcome::DrawOutcome;
 use crate::request::Request;
-use crate::{CaseHead, case_picture, case_rows};
+use crate::sought::{Found, Sought, seek};
 use case_analysis::default_limit;
-use fixpoint_engine::{EngineEnd, Store, Waves};
+use drawing_tree::Drawing;
 use flat_circuit::Circuit;
 use listing::Output;
 use program_call::{Reply, ended, refused, verdict};
 use scald_base::{Bytes, NoMemory, Outcome, Stop};
+use slack_report::Names;
 use std::alloc::Global;
 use step_values::Value;
-use timing_analysis::{Drawn, SettledBase, SettledCase, Subject, read_circuit};
+use timing_analysis::{Drawn as Read, Subject, read_circuit, read_text};
 use wave_core::CyclicWave;
 
-/// What was found of the case that is asked for.
-#[derive(Drop, Debug)]
-pub enum Found {
-    /// It has not come yet.
-    Nothing,
-    /// There is too much to draw.
-    Much,
-    /// Its picture.
-    Picture(Bytes),
-}
-
-impl Found {
-    /// Whether it has not come yet.
-    fn is_nothing(&self) -> bool
-        ensures { result ≡ is_nothing self.now }
-    {
-        matches!(self, Found::Nothing)
-    }
-}
-
-/// What is asked for while the cases come: what was found, and how many faults there are so far.
-#[derive(Drop, Debug)]
-pub struct Sought {
-    pub found: Found,
-    pub faults: u32,
-}
-
-/// The number of a case, if one is listed.
-fn number_of(number: u32) -> Option<u32>
-    ensures { result ≡ number_of number }
+/// A reply that writes nothing.
+fn silent(alloc: Global, outcome: DrawOutcome) -> Reply<DrawOutcome>
+    ensures outcome { result.outcome ≡ outcome }
+    ensures bytes { result.bytes ≡ [] }
 {
-    if number == 0 { None } else { Some(number) }
-}
-
-/// The picture of a case, unless there is too much to draw.
-fn picture_of<W: CyclicWave<Item = Value>>(
-    alloc: Global,
-    circuit: &Circuit,
-    waves: &Waves<W>,
-    head: CaseHead,
-) -> Result<Found, NoMemory>
-    requires { FitWaves circuit.now waves.now }
-    ensures { IfOk result (λ found. found ≡ found_on circuit.now (waves_of waves.now) head) }
-{
-    let rows = case_rows(alloc, circuit, waves)?;
-    match case_picture(alloc, circuit, waves, rows.as_slice(), head, &[])? {
-        Some(bytes) => Ok(Found::Picture(bytes)),
-        None => Ok(Found::Much),
+    Reply {
+        outcome,
+        bytes: Output::whole(Bytes::new(alloc)),
     }
-}
-
-/// One case more, which is drawn if it is asked for and none was before.
-fn add_case<W: CyclicWave<Item = Value>>(
-    sought: &mut Sought,
-    alloc: Global,
-    circuit: &Circuit,
-    asked: u32,
-    store: &Store<W>,
-    case: &SettledCase,
-) -> Result<(), NoMemory>
-    requires room { sought.old.faults + length case.now.faults < 2 ^ 32 }
-    requires known { AreKnown store.now case.now.settled.numbers }
-    requires fit { FitWaves circuit.now (waves_at store.now case.now.settled.numbers) }
-    ensures count { OnOk result
-        (sought.new.faults ≡ sought.old.faults + length case.now.faults) }
-    ensures found { OnOk result (sought.new.found ≡ next_found sought.old.found
-        (case.now.number == asked) (found_on circuit.now
-        (waves_of (waves_at store.now case.now.settled.numbers))
-        (settled_head case.now.number case.now.tick))) }
-{
-    sought.faults += case.faults.len() as u32;
-    if case.number == asked && sought.found.is_nothing() {
-        let head = CaseHead {
-            number: number_of(case.number),
-            tick: case.tick,
-        };
-        let waves = Waves::new(store.waves(), case.settled.numbers.as_slice());
-        sought.found = picture_of(alloc, circuit, &waves, head)?;
-    }
-    Ok(())
-}
-
-/// The one case of a circuit for which none is listed, and nothing more if some are.
-fn add_only_case<W: CyclicWave<Item = Value>>(
-    alloc: Global,
-    subject: &Subject,
-    asked: u32,
-    limit: u32,
-    base: SettledBase<W>,
-    sought: &mut Sought,
-) -> Result<(), NoMemory>
-    requires is { IsSubject subject.now }
-    requires few { limit ≤ 10000000 }
-    requires settled { IsBaseIn subject.now.circuit limit base.base.rounds base.store
-        base.base.numbers base.known }
-    requires room { sought.old.faults ≤ 458752 * length subject.now.cases }
-    ensures { OnOk result (OfCases subject.now.circuit limit base.base.rounds
-        (numbered 1 subject.now.cases)
-        (λ (cases : List Case).
-        IsSought sought.old asked subject.now.circuit base.base.rounds cases) →
-        OfCases subject.now.circuit limit base.base.rounds (listed_cases subject.now.cases)
-        (λ (cases : List Case).
-        IsSought sought.new asked subject.now.circuit base.base.rounds cases)) }
-{
-    if !subject.cases.is_empty() {
-        return Ok(());
-    }
-    let (store, case) = base.only_case(alloc, subject, limit)?;
-    add_case(sought, alloc, &subject.circuit, asked, &store, &case)
-}
-
-/// What was sought over all cases of a circuit, or the end of the base or of the first case that
-/// never settles within so many rounds.
-fn seek<W: CyclicWave<Item = Value>>(
-    alloc: Global,
-    subject: &Subject,
-    asked: u32,
-    limit: u32,
-) -> Result<Sought, EngineEnd>
-    requires is { IsSubject subject.now }
-    requires few { limit ≤ 10000000 }
-    ensures found { IfOk result (λ sought.
-        IsFoundIn sought asked subject.now.circuit subject.now.cases limit) }
-    ensures ended { IfErr result (EndsEarly subject.now.circuit subject.now.cases limit) }
-{
-    let mut base = subject.base::<W>(alloc, limit)?;
-    let mut sought = Sought {
-        found: Found::Nothing,
-        faults: 0,
-    };
-    for place in 0..subject.cases.len() as u32 {
-        let case = subject.case(alloc, &mut base, place, limit)?;
-        add_case(
-            &mut sought,
-            alloc,
-            &subject.circuit,
-            asked,
-            &base.store,
-            &case,
-        )?;
-    }
-    add_only_case(alloc, subject, asked, limit, base, &mut sought)?;
-    Ok(sought)
 }
 
 /// The reply to what was sought among so many cases.
@@ -181,16 +48,30 @@ fn reply_of(alloc: Global, sought: Sought, count: u32) -> Reply<DrawOutcome>
 {
     let Sought { found, faults } = sought;
     match found {
-        Found::Nothing => Reply {
-            outcome: DrawOutcome::NoCase(count),
-            bytes: Output::whole(Bytes::new(alloc)),
-        },
-        Found::Much => Reply {
-            outcome: DrawOutcome::TooMuch,
-            bytes: Output::whole(Bytes::new(alloc)),
-        },
+        Found::Nothing => silent(alloc, DrawOutcome::NoCase(count)),
+        Found::Much => silent(alloc, DrawOutcome::TooMuch),
         Found::Picture(bytes) => Reply {
             outcome: DrawOutcome::Drawing(verdict(faults)),
+            bytes: Output::whole(bytes),
+        },
+    }
+}
+
+/// The reply to what was drawn of limits, or of the nets below a path, if there are some.
+fn reply_of_limits(alloc: Global, told: Told, has_nets: bool) -> Reply<DrawOutcome>
+    ensures outcome { result.outcome
+        ≡ (answered_below has_nets told.drawn told.faults).outcome }
+    ensures bytes { result.bytes ≡ (answered_below has_nets told.drawn told.faults).bytes }
+{
+    if !has_nets {
+        return silent(alloc, DrawOutcome::NoNet);
+    }
+    let Told { drawn, faults } = told;
+    match drawn {
+        Drawn::NoRow(count) => silent(alloc, DrawOutcome::NoRow(count)),
+        Drawn::Much => silent(alloc, DrawOutcome::TooMuch),
+        Drawn::Picture(bytes) => Reply {
+            outcome: DrawOutcome::Limits(verdict(faults)),
             bytes: Output::whole(bytes),
         },
     }
@@ -220,54 +101,163 @@ fn limit_of(circuit: &Circuit, rounds: Option<u32>) -> u32
     }
 }
 
-/// The reply to a circuit and its cases.
-fn draw_subject<W: CyclicWave<Item = Value>>(
+/// The reply to a circuit of which a case is asked for.
+fn draw_case<W: CyclicWave<Item = Value>>(
     alloc: Global,
     subject: &Subject,
-    request: Request,
+    number: u32,
+    limit: u32,
 ) -> Result<Reply<DrawOutcome>, NoMemory>
     requires is { IsSubject subject.now }
-    requires within { IsWithin request }
-    ensures { IfOk result (λ reply. DrawsCase request.case subject.now.circuit subject.now.cases
-        (limit_for subject.now.circuit request.rounds) reply.outcome reply.bytes) }
+    requires few { limit ≤ 10000000 }
+    ensures { IfOk result (λ reply. DrawsCase number subject.now.circuit subject.now.cases limit
+        reply.outcome reply.bytes) }
 {
-    let limit = limit_of(&subject.circuit, request.rounds);
-    match seek::<W>(alloc, subject, request.case, limit) {
+    match seek::<W>(alloc, subject, number, limit) {
         Ok(sought) => Ok(reply_of(alloc, sought, subject.cases.len() as u32)),
         Err(end) => Ok(as_verified(ended(alloc, &subject.circuit, end)?)),
+    }
+}
+
+/// The reply to a circuit of which limits are asked for.
+fn draw_job<W: CyclicWave<Item = Value>>(
+    job: Job,
+    limits: Limits,
+) -> Result<Reply<DrawOutcome>, NoMemory>
+    requires is { IsSubject job.subject.now }
+    requires few { job.limit ≤ 10000000 }
+    requires asked { IsRow limits }
+    ensures { IfOk result (λ reply. DrawsLimits limits (option_copied job.entry.under)
+        job.entry.subject.now.circuit job.entry.subject.now.cases job.entry.limit reply.outcome
+        reply.bytes) }
+{
+    let has_nets = has_below(job.alloc, &job.subject.circuit, job.under)?;
+    match draw_limits::<W>(job, limits) {
+        Ok(told) => Ok(reply_of_limits(job.alloc, told, has_nets)),
+        Err(end) => Ok(as_verified(ended(job.alloc, &job.subject.circuit, end)?)),
+    }
+}
+
+/// The reply to a circuit of which limits are asked for, with its drawing, and with names to which
+/// those of the circuit are added.
+fn draw_named<W: CyclicWave<Item = Value>>(
+    alloc: Global,
+    subject: &Subject,
+    limit: u32,
+    drawing: &Drawing,
+    limits: Limits,
+    under: Option<&[u8]>,
+    names: &mut Names,
+) -> Result<Reply<DrawOutcome>, NoMemory>
+    requires is { IsSubject subject.now }
+    requires few { limit ≤ 10000000 }
+    requires asked { IsRow limits }
+    ensures { IfOk result (λ reply. DrawsLimits limits (option_copied under.entry)
+        subject.now.circuit subject.now.cases limit reply.outcome reply.bytes) }
+{
+    names.fill(alloc, &subject.circuit)?;
+    let job = Job {
+        alloc,
+        subject,
+        limit,
+        drawing,
+        names: &*names,
+        under,
+    };
+    draw_job::<W>(job, limits)
+}
+
+/// The same with no names yet.
+fn draw_of_limits<W: CyclicWave<Item = Value>>(
+    alloc: Global,
+    subject: &Subject,
+    limit: u32,
+    drawing: &Drawing,
+    limits: Limits,
+    under: Option<&[u8]>,
+) -> Result<Reply<DrawOutcome>, NoMemory>
+    requires is { IsSubject subject.now }
+    requires few { limit ≤ 10000000 }
+    requires asked { IsRow limits }
+    ensures { IfOk result (λ reply. DrawsLimits limits (option_copied under.entry)
+        subject.now.circuit subject.now.cases limit reply.outcome reply.bytes) }
+{
+    let mut names = Names::new(alloc);
+    draw_named::<W>(alloc, subject, limit, drawing, limits, under, &mut names)
+}
+
+/// The drawing of a text that draws a circuit, for what is said of its limits.
+fn drawing_of(alloc: Global, text: &[u8]) -> Result<Drawing, NoMemory>
+    requires { length text.now < 2 ^ 32 - 1 }
+{
+    match read_text(alloc, text) {
+        Ok(drawing) => Ok(drawing),
+        // It was read before, so only memory is wanting.
+        Err(_) => Err(NoMemory),
+    }
+}
+
+/// The reply to a text and its circuit.
+fn draw_subject<W: CyclicWave<Item = Value>>(
+    alloc: Global,
+    text: &[u8],
+    subject: &Subject,
+    request: Request,
+    under: Option<&[u8]>,
+) -> Result<Reply<DrawOutcome>, NoMemory>
+    requires short { length text.now < 2 ^ 32 - 1 }
+    requires is { IsSubject subject.now }
+    requires within { IsWithin request }
+    ensures { IfOk result (λ reply. DrawsAsked request.asked (option_copied under.entry)
+        subject.now.circuit subject.now.cases (limit_for subject.now.circuit request.rounds)
+        reply.outcome reply.bytes) }
+{
+    let limit = limit_of(&subject.circuit, request.rounds);
+    match request.asked {
+        Asked::Case(number) => draw_case::<W>(alloc, subject, number, limit),
+        Asked::Limits(limits) => {
+            let drawing = drawing_of(alloc, text)?;
+            draw_of_limits::<W>(alloc, subject, limit, &drawing, limits, under)
+        }
     }
 }
 
 /// The reply to what a text draws.
 fn draw_drawn<W: CyclicWave<Item = Value>>(
     alloc: Global,
-    drawn: Drawn,
+    text: &[u8],
+    drawn: Read,
     request: Request,
+    under: Option<&[u8]>,
 ) -> Result<Reply<DrawOutcome>, NoMemory>
+    requires short { length text.now < 2 ^ 32 - 1 }
     requires few { length drawn.cases ≤ 256 }
     requires exist { All (NetsExist drawn.circuit) drawn.cases }
     requires within { IsWithin request }
-    ensures { IfOk result (λ reply. DrawsCase request.case drawn.circuit drawn.cases
-        (limit_for drawn.circuit request.rounds) reply.outcome reply.bytes) }
+    ensures { IfOk result (λ reply. DrawsAsked request.asked (option_copied under.entry)
+        drawn.circuit drawn.cases (limit_for drawn.circuit request.rounds) reply.outcome
+        reply.bytes) }
 {
     let subject = Subject::new(alloc, drawn)?;
-    draw_subject::<W>(alloc, &subject, request)
+    draw_subject::<W>(alloc, text, &subject, request, under)
 }
 
-/// The reply to a text of fewer than 4,294,967,295 bytes: the picture that is asked for, or why
-/// there is none. It is the same whichever kind of waves is chosen. `NoMemory` comes if memory runs
-/// out.
+/// The reply to a text of fewer than 4,294,967,295 bytes: what is asked for as a picture or a page,
+/// of the nets below a path if one is asked for, or why there is none. It is the same whichever kind
+/// of waves is chosen. `NoMemory` comes if memory runs out.
 pub fn draw<W: CyclicWave<Item = Value>>(
     alloc: Global,
     text: &[u8],
     request: Request,
+    under: Option<&[u8]>,
 ) -> Result<Reply<DrawOutcome>, NoMemory>
     requires short { length text.now < 2 ^ 32 - 1 }
     requires within { IsWithin request }
-    ensures { IfOk result (λ reply. Draws request text.now reply.outcome reply.bytes) }
+    ensures { IfOk result (λ reply. Draws (asking (option_copied under.entry) request) text.now
+        reply.outcome reply.bytes) }
 {
     match read_circuit(alloc, text) {
-        Ok(drawn) => draw_drawn::<W>(alloc, drawn, request),
+        Ok(drawn) => draw_drawn::<W>(alloc, text, drawn, request, under),
         Err(Stop::Refused(refusal)) => Ok(as_verified(refused(alloc, refusal)?)),
         Err(Stop::NoMemory) => Err(NoMemory),
     }

@@ -16,7 +16,7 @@ use wave_core::CyclicWave;
 
 /// Bits of one name side by side with equal waves: the nets at the places in name order from the
 /// first on, up to another that is no more of them.
-#[derive(Clone, Copy, Debug)]
+#[derive(Clone, Copy)]
 pub struct Row {
     pub from: u32,
     pub to: u32,

@@ -10,7 +10,7 @@ use step_values::Value;
 use wave_core::CyclicWave;
 
 /// So many slots side by side with one value, from a slot of the view on.
-#[derive(Clone, Copy, Debug)]
+#[derive(Clone, Copy)]
 pub struct Placed {
     pub value: Value,
     pub from: u32,

@@ -8,7 +8,7 @@ use crate::paper::{Paper, Piece};
 use step_values::Value;
 
 /// Where a run is drawn: from where on, how wide, and whether it has one slot alone.
-#[derive(Clone, Copy, Debug)]
+#[derive(Clone, Copy)]
 pub struct Stroke {
     pub x: u64,
     pub width: u64,

@@ -50,3 +50,10 @@ markerHeight=\"90\" markerUnits=\"userSpaceOnUse\" orient=\"auto\">\
 <marker id=\"a2\" class=\"mk2\" viewBox=\"0 0 10 10\" refX=\"9\" refY=\"5\" markerWidth=\"90\" \
 markerHeight=\"90\" markerUnits=\"userSpaceOnUse\" orient=\"auto\">\
 <path d=\"M0 1l9 4l-9 4z\"/></marker></defs>";
+
+/// How a page looks beside its pictures.
+pub const PAGE_STYLE: &[u8] = b"body{margin:16px;background:#fff;color:#111}\
+pre,h1{font-family:ui-monospace,Consolas,monospace}\
+a{color:inherit}text a{text-decoration:underline}[class=r]{font-size:95px}\
+svg{overflow:visible}section{break-inside:avoid}\
+@media screen and (prefers-color-scheme:dark){body{background:#15171a;color:#eee}}";

@@ -8,7 +8,7 @@ const PLOT: u32 = 9600;
 
 /// So many slots from a first one on, of a period and with units of so many ticks. Slots and ticks
 /// count from 0 on, a whole number of periods after those that a reader sees: `moved` ticks.
-#[derive(Clone, Copy, Debug)]
+#[derive(Clone, Copy)]
 pub struct View {
     pub first: u32,
     pub count: u32,

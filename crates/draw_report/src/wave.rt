@@ -122,6 +122,24 @@ fn put_changes(out: &mut Paper, scale: u32, runs: &[Placed])
     }
 }
 
+/// One path of the changes of a wave without skew, as far as so many slots from one on have them.
+fn put_changing<W: CyclicWave<Item = Value>>(
+    alloc: Global,
+    out: &mut Paper,
+    view: View,
+    from: u32,
+    wave: &W,
+)
+    requires { from + view.count < 2 ^ 31 }
+    ensures { Adds out.old out.new (all_written (busy_path (codes "late") (late_words (scale view))
+        (runs_from (W.cells wave.now) from view.count))) }
+{
+    match runs_in(alloc, wave, from, view.count) {
+        Ok(runs) => put_changes(out, view.scale(), runs.as_slice()),
+        Err(_) => out.lose(),
+    }
+}
+
 /// The changes of a wave as late as its skew lets them come.
 pub fn put_late<W: CyclicWave<Item = Value>>(
     alloc: Global,
@@ -134,10 +152,7 @@ pub fn put_late<W: CyclicWave<Item = Value>>(
 {
     wave.known();
     let from = view.first + u32::from(wave.period() - wave.skew());
-    match runs_in(alloc, wave.wave(), from, view.count) {
-        Ok(runs) => put_changes(out, view.scale(), runs.as_slice()),
-        Err(_) => out.lose(),
-    }
+    put_changing(alloc, out, view, from, wave.wave());
 }
 
 /// Whether a slot of a fold may step: it may change, or it does not.

@@ -5,8 +5,8 @@
 use crate::named::Answer;
 use crate::traced::{explain_cases, say_trace};
 use diagnostics::{
-    Lines, explain_notes, explain_refusal, explain_section, explain_undriven, explain_words, part,
-    sets_limit,
+    Lines, Part, explain_notes, explain_refusal, explain_section, explain_undriven, explain_words,
+    part, sets_limit,
 };
 use draw_report::DrawOutcome;
 use fault_decider::DecideOutcome;
@@ -14,6 +14,7 @@ use netlist_import::ImportOutcome;
 use scald_base::{CallEnd, Outcome, Refusal, Words};
 use scald_tool::Omissions;
 use section_compose::{SectionsOutcome, explain_broken, list_crossings, piece_of_section};
+use std::alloc::Global;
 use std::io::Eprint;
 
 /// The forms of words that the program knows.
@@ -31,7 +32,10 @@ const FORMS: &str = "usage:
     scald run T SEED [case=K] [long] <DRAWING          a run of T ticks that a seed draws, 1 to 4096, or with long 65535, as a trace
     scald vcd T SEED [case=K] [tick=1ns] <DRAWING      the same run as a value change dump, for a wave viewer
     scald judge F [long] <TRACE-AND-DRAWING            whether the trace is a run, and what breaks in it from tick F on
+    scald draw [faults|waves] [rounds=N] <DRAWING      a page of the broken limits and of the waves of all cases, or of one of both
+    scald draw waves under=PATH [rounds=N] <DRAWING    a page of the waves of the nets whose names begin with PATH
     scald draw case=K [rounds=N] <DRAWING              the waves of a case as a picture; K is 0 if no case is listed
+    scald draw N|worst=N [rounds=N] <DRAWING           the N-th limit that is broken, or the N-th of all, as a picture
     scald import [cells] <NETLIST                      macros of a netlist that yosys wrote as JSON, or of its kinds of cells, to fill in
     scald bench N                                      what is found in a made drawing of N sections, 1 to 200";
 
@@ -61,6 +65,9 @@ const UNSETTLED_SECTION: &str =
 
 /// What is said if more bytes came than a drawing or sections may have.
 const TOO_LONG: &str = "scald: the drawing has more than 4194304 bytes";
+
+/// What is said if no net is below the path that is asked for.
+const NO_NET: &str = "scald: no net has a name that begins so";
 
 /// What is said if there is too much to draw.
 const TOO_MUCH: &str = "scald: there are more than 8192 rows or 262144 runs to draw";
@@ -183,6 +190,16 @@ fn say_sections(
     }
 }
 
+/// How many limits there are that could be drawn.
+fn explain_rows(alloc: Global, count: u32) -> Lines {
+    let mut out = Lines::new(alloc);
+    out.line(&[
+        Part::Text(b"scald: there is no such limit: the last to draw is "),
+        Part::Number(u64::from(count)),
+    ]);
+    out
+}
+
 /// Says why there is no picture, if there is none.
 fn say_picture(
     rt: &(impl Eprint + AllocGlobal),
@@ -191,8 +208,12 @@ fn say_picture(
     outcome: &DrawOutcome,
 ) {
     match outcome {
-        DrawOutcome::Drawing(outcome) => say_outcome(rt, words, text, outcome),
+        DrawOutcome::Drawing(outcome) | DrawOutcome::Limits(outcome) => {
+            say_outcome(rt, words, text, outcome)
+        }
         DrawOutcome::NoCase(count) => say_lines(rt, &explain_cases(rt.alloc(), *count)),
+        DrawOutcome::NoRow(count) => say_lines(rt, &explain_rows(rt.alloc(), *count)),
+        DrawOutcome::NoNet => say(rt, NO_NET),
         DrawOutcome::TooMuch => say(rt, TOO_MUCH),
     }
 }

@@ -2,10 +2,11 @@
 //! with the changes that come to them.
 //!
 //! The program calls [`slack_main`] for both, the main call of `program_call` for the program
-//! [`SlackProgram`]. `specs/Words` says what words ask for, `specs/Answer` which outcome an answer
-//! has and what stands in its first and its last line, and `specs/Promise` what the call promises
-//! beside. The lines between them are not exact; their numbers are those of `slack_rows` and
-//! `critical_paths`.
+//! [`SlackProgram`]. Pictures of limits are made of its rows ([`grouped`], the worst first) and of
+//! its paragraphs ([`put_paragraph`]). `specs/Words` says what words ask for, `specs/Answer` which
+//! outcome an answer has and what stands in its first and its last line, and `specs/Promise` what
+//! the call promises beside. The lines between them are not exact; their numbers are those of
+//! `slack_rows` and `critical_paths`.
 #![tactic(auto)]
 
 // what is reported, and in which words
@@ -32,4 +33,11 @@ mod program;
 mod reporter;
 mod request;
 
+// what pictures of limits are made of
+pub use collected::{add_case, no_rows};
+pub use groups::{Row, grouped};
+pub use page::Page;
+pub use paragraph::put_paragraph;
 pub use program::{SlackProgram, slack_main};
+pub use sheet::{Limit, Names, Sheet, Texts};
+pub use table::{broken_rows, put_table};

@@ -1,5 +1,6 @@
-use Rattle.std.proofs.Common.{◌≡◌, ℕ, suc, ◌+◌, ◌*◌, ◌<◌, List, [], ◌∷◌, ◌++◌, length, get_or, take, append_assoc, append-nil, arith, sym, ap, ◌∙◌}
+use Rattle.std.proofs.Common.{◌≡◌, ℕ, suc, ◌+◌, ◌*◌, ◌^◌, ◌<◌, ◌≤◌, List, [], ◌∷◌, ◌++◌, length, get_or, take, append_assoc, append-nil, arith, sym, ap, subst, ◌∙◌}
 use Rattle.std.proofs.lemmas.List.{length-take-le, take_all, take_more}
+use Rattle.std.proofs.lemmas.List.Elements.{All-get_or}
 use Rattle.draw_report.specs.declared.paper.Paper.{Paper}
 use Rattle.draw_report.specs.Paper.{Adds}
 use Rattle.draw_report.specs.Element.{all_written}
@@ -44,6 +45,20 @@ adds_line top lines i y line old between new within is height a b =
     ∙ nodes_append (caption_nodes top (take i lines)) (line_nodes y line)))
     (adds_two old between new (all_written (caption_nodes top (take i lines)))
     (all_written (line_nodes y line)) a b)
+
+pub overflow_add-y : goal.overflow_add-y
+overflow_add-y c =
+    let height = c.loop-line.invariant.height in
+    let inside = c.loop-line-test.true in
+    let few = c.requires.few in
+    let near = c.requires.near in
+    omega (arith, height, inside, few, near)
+
+pub put_line-requires : goal.put_line-requires
+put_line-requires c =
+    subst (λ (line : List ℕ). length line ≤ 2 ^ 32) (sym (c.as_slice.ensures ∙ c.line-item.is))
+    (All-get_or (λ (line : List ℕ). length line ≤ 2 ^ 32) c.args.lines.now c.loop-line.line-index
+    _ c.loop-line-test.true c.requires.short)
 
 pub loop-line-preserved : goal.loop-line-preserved
 loop-line-preserved c =

@@ -1,22 +1,29 @@
-use Rattle.std.proofs.Common.{subst, ℕ}
-use Rattle.draw_report.specs.Answer.{DrawsCase}
-use Rattle.draw_report.proofs.Replying.{ended_drawn, found_drawn}
+use Rattle.std.proofs.Common.{subst, sym, ℕ}
+use Rattle.std.specs.Prelude.{IfOk}
+use Rattle.std.specs.Option.{option_copied}
+use Rattle.program_call.specs.Answer.{limit_for}
+use Rattle.draw_report.specs.declared.asked.Asked.{Asked}
+use Rattle.draw_report.specs.Answer.{DrawsAsked, DrawsCase, DrawsLimits}
 use Rattle.draw_report.proofs.reply.draw_subject.Goals as goal
 
-pub returns-in-Ok : goal.returns-in-Ok
-returns-in-Ok g c =
+pub returns-in-Case : goal.returns-in-Case
+returns-in-Case g c =
     let subject = c.args.subject.now in
-    subst (λ (n : ℕ). DrawsCase c.args.request.case subject.circuit subject.cases n
-    c.reply_of.result.outcome c.reply_of.result.bytes) c.limit_of-limit.ensures.is
-    (found_drawn c.args.request.case subject.circuit subject.cases c.limit_of-limit.result
-    c.in-Ok.sought _ _ _ c.in-Ok.ensures.found c.len.ensures
-    c.reply_of.ensures.outcome c.reply_of.ensures.bytes)
+    let under = option_copied c.args.under in
+    subst (λ (asked : Asked). IfOk c.draw_case.result (λ reply. DrawsAsked asked under subject.circuit
+    subject.cases (limit_for subject.circuit c.args.request.rounds) reply.outcome reply.bytes))
+    (sym c.in-Case.is)
+    (subst (λ (n : ℕ). IfOk c.draw_case.result (λ reply. DrawsCase c.in-Case.number subject.circuit
+    subject.cases n reply.outcome reply.bytes)) c.limit_of-limit.ensures.is
+    c.draw_case.ensures)
 
-pub returns-in_ok-ended-in-Err : goal.returns-in_ok-ended-in-Err
-returns-in_ok-ended-in-Err g c =
+pub returns-in_ok-drawing-in-Limits : goal.returns-in_ok-drawing-in-Limits
+returns-in_ok-drawing-in-Limits g c =
     let subject = c.args.subject.now in
-    subst (λ (n : ℕ). DrawsCase c.args.request.case subject.circuit subject.cases n
-    c.as_verified.result.outcome c.as_verified.result.bytes) c.limit_of-limit.ensures.is
-    (ended_drawn c.args.request.case subject.circuit subject.cases c.limit_of-limit.result
-    c.in-Err.end c.in_ok-ended-in-Err.field-0 _ _ c.in-Err.ensures.ended
-    c.in_ok-ended-in-Err.ensures c.as_verified.ensures.outcome c.as_verified.ensures.bytes)
+    let under = option_copied c.args.under in
+    subst (λ (asked : Asked). IfOk c.draw_of_limits.result (λ reply. DrawsAsked asked under subject.circuit
+    subject.cases (limit_for subject.circuit c.args.request.rounds) reply.outcome reply.bytes))
+    (sym c.in-Limits.is)
+    (subst (λ (n : ℕ). IfOk c.draw_of_limits.result (λ reply. DrawsLimits c.in-Limits.limits under
+    subject.circuit subject.cases n reply.outcome reply.bytes)) c.limit_of-limit.ensures.is
+    c.draw_of_limits.ensures)
