@@ -73,8 +73,8 @@ ROWS = [
     ("false_path", 0, text(r"REFUTED FROM \d+ BY SEL<0>=0, SEL<0>=1")),
     ("common_clock", 0, text(r"REFUTED FROM \d+ BY \d+ NARROWINGS")),
     ("skews", 1, edge(-9, 5)),
-    # all steps come some 6,000 ticks later
-    ("slow", 1, late(edge(-19, 0, 100), 4096)),
+    # all steps come some 80,000 ticks later
+    ("slow", 1, late(edge(-19, 0, 100), 65535)),
     ("width", 1, pulse(50)),
     ("xor_itself", 0, text(r"REFUTED FROM \d+ BY WINDOW")),
     ("select_stable", 0, text(r"REFUTED FROM \d+ BY WINDOW")),
@@ -113,9 +113,9 @@ def split(report):
     return plain, verdicts, own, lines[-1]
 
 
-def judged(name, drawing, number, printed, verdict):
+def judged(name, drawing, number, printed, verdict, words=("decide",)):
     """The trace of a shown fault is a run whose inputs keep their assertions, with a break."""
-    status, trace = run(["decide", f"trace={number}"], drawing)
+    status, trace = run([*words, f"trace={number}"], drawing)
     if not verdict.startswith("SHOWN"):
         if status != 10 or trace:
             wrong(name, f"trace={number}: status {status}")
@@ -185,6 +185,22 @@ def unbroken(name, drawing, report):
                 wrong(name, f"{' '.join(words)}: judge {start} long says {said!r}")
 
 
+def harder(name, drawing):
+    """With more effort the traces are still those of the runs in the report."""
+    words = ("decide", "effort=3")
+    status, report = run(list(words), drawing)
+    if status > 1:
+        return
+    lines, verdicts = split(report)[:2]
+    printed, number = 0, 0
+    for line in lines:
+        if line.startswith("CASE "):
+            printed = int(line.split()[-1])
+        if line.startswith("FAULT "):
+            number += 1
+            judged(name, drawing, number, printed, verdicts[number - 1], words)
+
+
 def kept(file):
     """What stands beside a drawing is what is written of it: a report in NAME.decided, the first run in NAME.trace."""
     for ending, words in ((".decided", ["decide"]), (".trace", ["decide", "trace=1"])):
@@ -201,6 +217,7 @@ def main():
         with open(f"{TOP}/checks/decide/{name}.scald", "rb") as file:
             drawing = file.read()
         came, verdicts, report = whole(name, drawing)
+        harder(name, drawing)
         if came != status:
             wrong(name, f"status {came} in place of {status}")
         if (holds is None) != (not verdicts) or not all(holds(v) for v in verdicts):

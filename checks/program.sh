@@ -176,7 +176,7 @@ forms='usage:
     scald chains <DRAWING                              where each fault comes from
     scald sections <DRAWINGS                           verify of drawings with a line ===== between them, each by itself and joined
     scald decide [effort=N] [trace=I] <DRAWING         each fault shown by a run, or refuted; the run of the I-th as a trace
-    scald run T SEED [case=K] [long] <DRAWING          a run of T ticks that a seed draws, 1 to 4096, or with long 65535, as a trace
+    scald run T SEED [case=K] [long] <DRAWING          a run of T ticks that a seed draws, 1 to 4096, or with long 1048576, as a trace
     scald vcd T SEED [case=K] [tick=1ns] <DRAWING      the same run as a value change dump, for a wave viewer
     scald judge F [long] <TRACE-AND-DRAWING            whether the trace is a run, and what breaks in it from tick F on
     scald draw [faults|waves] [rounds=N] <DRAWING      a page of the broken limits and of the waves of all cases, or of one of both
@@ -344,11 +344,11 @@ none "unknown command 'Judge': is judge meant?" Judge
 none "'design' cannot come after 'import'" import design
 none "'cells' cannot come after 'cells'" import cells cells
 none "'cpu.json' cannot come after 'import'$input" import cpu.json
-ticks='1 to 4096, or with long last to 65535, without zeros in front'
+ticks='1 to 4096, or with long last to 1048576, without zeros in front'
 for number in '' 0 01 +1 4097 65537 4294967297; do
     none "'$number' cannot come after 'run': T is $ticks" run "$number" 0
 done
-for number in '' 0 01 65536 4294967297; do
+for number in '' 0 01 1048577 4294967297; do
     none "'$number' cannot come after 'run': T is $ticks" run "$number" 0 long
 done
 none "'4097' cannot come after 'run': T is $ticks" run 4097 0 long case=1
@@ -367,7 +367,7 @@ ticks="0 ${ticks#1 }"
 for number in '' 00 -1 4097 65536; do
     none "'$number' cannot come after 'judge': F is $ticks" judge "$number"
 done
-none "'65536' cannot come after 'judge': F is $ticks" judge 65536 long
+none "'1048577' cannot come after 'judge': F is $ticks" judge 1048577 long
 # three words at most, and two for bench
 none "'faults' cannot come after 'rounds=5'" verify waves rounds=5 faults
 none "'rounds=5' cannot come after 'rounds=5'" verify waves rounds=5 rounds=5
@@ -504,18 +504,18 @@ short "$pulse" | cat "$work/trace" - | "$program" judge 4096 long >"$work/out"
 expect "a run of 4,097 ticks" 0 $?
 short "$pulse" | cat "$work/trace" - | "$program" judge 4096 >"$work/out" 2>"$work/said"
 says "4,097 ticks without long" 9 'scald: line 1 is not a valid line of a trace of the drawing' $?
-short "$pulse" | "$program" run 65535 0 long >"$work/trace"
+short "$pulse" | "$program" run 1048576 0 long >"$work/trace"
 short "$pulse" | cat "$work/trace" - | "$program" judge 0 long >"$work/out"
-expect "a run of 65,535 ticks" 0 $?
-printf 'RUN\nINTERFACE\nBREAK c1<0> TICK 60002\n' >"$work/want"
-short 'c1 : MIN_PULSE_CHK {HIGH=2} ("CK .P1-2");' | cat "$work/trace" - | "$program" judge 60000 long >"$work/out"
+expect "a run of 1,048,576 ticks" 0 $?
+printf 'RUN\nINTERFACE\nBREAK c1<0> TICK 1048574\n' >"$work/want"
+short 'c1 : MIN_PULSE_CHK {HIGH=2} ("CK .P1-2");' | cat "$work/trace" - | "$program" judge 1048570 long >"$work/out"
 expect "a late break" 1 $?
 printf 'RUN\nINTERFACE\nNO BREAK\n' >"$work/want"
-short 'c1 : MIN_PULSE_CHK {HIGH=2} ("CK .P1-2");' | cat "$work/trace" - | "$program" judge 65535 long >"$work/out"
+short 'c1 : MIN_PULSE_CHK {HIGH=2} ("CK .P1-2");' | cat "$work/trace" - | "$program" judge 1048576 long >"$work/out"
 expect "no break from the last tick on" 0 $?
-sed '1s/65535/65536/; s/^\(CK<0> .*\)/\10/' "$work/trace" >"$work/more"
+sed '1s/1048576/1048577/; s/^\(CK<0> .*\)/\10/' "$work/trace" >"$work/more"
 short "$pulse" | cat "$work/more" - | "$program" judge 0 long >"$work/out" 2>"$work/said"
-says "65,536 ticks" 9 'scald: line 1 is not a valid line of a trace of the drawing' $?
+says "1,048,577 ticks" 9 'scald: line 1 is not a valid line of a trace of the drawing' $?
 
 # the greatest number of bits, and one net bit more
 short 'b : BUF [1:1] ("A"<0:249>) -> ("X"<0:249>);' 'c : BUF [1:1] ("B"<0:249>) -> ("Y"<0:249>);' >"$work/text"

@@ -10,7 +10,7 @@ from .expansion import SELECTS
 from .values import FALLS, RISES, Step, permits
 
 MOST_TICKS = 4096
-LONG_TICKS = 65535  # with the word long
+LONG_TICKS = 1048576  # with the word long
 END = b"END TRACE"
 
 

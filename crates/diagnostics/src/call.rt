@@ -48,7 +48,7 @@ const TICK: &[u8] = b"tick=";
 const LONG: &[u8] = b"long";
 
 /// The most ticks, without that word and with it.
-const MOST_TICKS: [u64; 2] = [4096, 65_535];
+const MOST_TICKS: [u64; 2] = [4096, 1_048_576];
 
 const SEEDS: Bounds = Bounds(b"SEED", 0, u64::MAX);
 

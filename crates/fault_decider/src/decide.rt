@@ -22,7 +22,7 @@ use std::cmp::{max, min};
 const MOST_BITS: u64 = 4_000_000;
 
 /// The most ticks of a run here.
-const MOST_TICKS: u64 = 65_535;
+const MOST_TICKS: u64 = 1_048_576;
 
 /// The steps of a search for a run, and of one for a refutation, at effort 1.
 const RUN_STEPS: u64 = 20_000_000;
@@ -51,7 +51,7 @@ fn limits_of(c: &Circuit, x: Constraint) -> u64 {
 
 /// How many ticks a run has in which a break is looked for: some periods from the printed tick on,
 /// as far as the bits of a trace allow. None if they allow no tick from there on.
-fn ticks_for(c: &Circuit, x: Constraint, printed: u64) -> Option<u16> {
+fn ticks_for(c: &Circuit, x: Constraint, printed: u64) -> Option<u32> {
     let nets = max(u64::from(c.net_count()), 1);
     let most = min(MOST_TICKS, MOST_BITS / nets);
     if most <= printed {
@@ -61,11 +61,11 @@ fn ticks_for(c: &Circuit, x: Constraint, printed: u64) -> Option<u16> {
     let wanted = printed
         .saturating_add(PERIODS * period)
         .saturating_add(limits_of(c, x));
-    u16::try_from(min(wanted, most)).ok()
+    u32::try_from(min(wanted, most)).ok()
 }
 
 /// How many tries a number of steps allows, at most so many.
-fn tries_for(c: &Circuit, ticks: u16, steps: u64, most: u64) -> u16 {
+fn tries_for(c: &Circuit, ticks: u32, steps: u64, most: u64) -> u16 {
     let nets = u64::from(c.net_count()) + u64::from(c.instance_count());
     let cost = max(nets, 1).saturating_mul(u64::from(ticks).saturating_mul(4));
     match u16::try_from(min(steps / max(cost, 1), most)) {
@@ -80,8 +80,8 @@ fn show(
     c: &Circuit,
     values: &Case,
     x: Constraint,
-    from: u16,
-    ticks: u16,
+    from: u32,
+    ticks: u32,
     first: u64,
     tries: u16,
 ) -> Result<Option<Showing>, NoMemory>
@@ -109,7 +109,7 @@ fn show_from(
     let Some(ticks) = ticks_for(c, x, printed) else {
         return Ok(None);
     };
-    let Ok(from) = u16::try_from(printed) else {
+    let Ok(from) = u32::try_from(printed) else {
         return Ok(None);
     };
     let tries = tries_for(c, ticks, steps, most);

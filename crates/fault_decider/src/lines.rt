@@ -24,9 +24,9 @@ use std::alloc::Global;
 fn add_two<'x>(
     out: &mut Bytes,
     front: &'x [u8],
-    m: u16,
+    m: u32,
     between: &'x [u8],
-    n: u16,
+    n: u32,
 ) -> Result<(), NoMemory>
     ensures { OnOk result (out.new
         ≡ out.old ++ line (front.now ∷ decimal m ∷ between.now ∷ decimal n ∷ [])) }

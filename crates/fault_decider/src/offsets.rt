@@ -17,7 +17,7 @@ use trace_sim::{skew_of, slot_back};
 use trace_tool::Trace;
 
 /// Whether the bit of a row at a tick is that of the ideal clock, so much later than its earliest.
-fn is_shifted_at(clock: &ClockSpec, h: &Header, early: u16, row: &[bool], by: u32, t: u16) -> bool
+fn is_shifted_at(clock: &ClockSpec, h: &Header, early: u16, row: &[bool], by: u32, t: u32) -> bool
     ensures { result ≡ is_shifted_at h.now clock.now early row.now by t }
 {
     let late = slot_back(h, t as usize + early as usize, by as usize);
@@ -25,7 +25,7 @@ fn is_shifted_at(clock: &ClockSpec, h: &Header, early: u16, row: &[bool], by: u3
 }
 
 /// Whether a row is the ideal clock, so much later than its earliest.
-fn is_shifted(clock: &ClockSpec, h: &Header, early: u16, ticks: u16, row: &[bool], by: u32) -> bool
+fn is_shifted(clock: &ClockSpec, h: &Header, early: u16, ticks: u32, row: &[bool], by: u32) -> bool
     ensures { result ≡ has_shift h.now clock.now early ticks row.now by }
 {
     for t in 0..ticks {
@@ -41,7 +41,7 @@ fn offset_of(
     clock: &ClockSpec,
     h: &Header,
     skew: (u16, u16),
-    ticks: u16,
+    ticks: u32,
     row: &[bool],
 ) -> Option<u32>
     ensures { result ≡ offset_in h.now clock.now skew ticks row.now }

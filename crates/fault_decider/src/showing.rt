@@ -27,7 +27,7 @@ pub struct Showing {
 }
 
 /// Whether a row has one bit alone at so many ticks.
-fn is_constant(row: &[bool], one: bool, ticks: u16) -> bool
+fn is_constant(row: &[bool], one: bool, ticks: u32) -> bool
     ensures { IsTrue result → (t : ℕ) → t < ticks → slice_index_or row.now t false ≡ one }
 {
     for t in 0..ticks {
@@ -39,7 +39,7 @@ fn is_constant(row: &[bool], one: bool, ticks: u16) -> bool
 }
 
 /// Whether the net of a case's value keeps it.
-fn keeps(value: CaseValue, ticks: u16, bits: &[Levels]) -> bool
+fn keeps(value: CaseValue, ticks: u32, bits: &[Levels]) -> bool
     ensures { IsTrue result → (t : ℕ) → t < ticks → bit_of bits.now value.net t ≡ value.one }
 {
     match bits.get(value.net as usize) {
@@ -49,7 +49,7 @@ fn keeps(value: CaseValue, ticks: u16, bits: &[Levels]) -> bool
 }
 
 /// Whether each net of a case keeps its value.
-fn is_in_case(values: &[CaseValue], ticks: u16, bits: &[Levels]) -> bool
+fn is_in_case(values: &[CaseValue], ticks: u32, bits: &[Levels]) -> bool
     ensures { (choices : List Chosen) → IsTrue result →
         IsInCase values.now (run_of ticks choices bits.now) }
 {
@@ -94,9 +94,9 @@ fn is_shown(
     c: &Circuit,
     values: &[CaseValue],
     x: Constraint,
-    from: u16,
+    from: u32,
     choice: &Choice,
-    ticks: u16,
+    ticks: u32,
     bits: &[Levels],
     named: Named,
 ) -> Result<bool, NoMemory>
@@ -125,7 +125,7 @@ pub fn shown_by(
     c: &Circuit,
     values: &Case,
     x: Constraint,
-    from: u16,
+    from: u32,
     found: Found,
 ) -> Result<Option<Showing>, NoMemory>
     requires { IsRun c.now (run_found found) }
@@ -137,7 +137,7 @@ pub fn shown_by(
         bits,
         named,
     } = found;
-    if u32::from(ticks) != u32::from(named.last()) + 1 {
+    if u64::from(ticks) != u64::from(named.last()) + 1 {
         return Ok(None);
     }
     let values = values.as_slice();

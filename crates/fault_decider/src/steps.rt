@@ -16,14 +16,14 @@ use std::cmp::max;
 use trace_tool::Trace;
 
 /// The bit of a net at a tick.
-fn bit_at(trace: &Trace, net: u32, t: u16) -> bool
+fn bit_at(trace: &Trace, net: u32, t: u32) -> bool
     ensures { result ≡ slice_index_or (row_at trace.now net) t false }
 {
     bit_in(trace.row(net), t)
 }
 
 /// The step of a net at a tick, if it steps.
-fn add_step(out: &mut Bytes, c: &Circuit, trace: &Trace, t: u16, net: u32) -> Result<(), NoMemory>
+fn add_step(out: &mut Bytes, c: &Circuit, trace: &Trace, t: u32, net: u32) -> Result<(), NoMemory>
     ensures { OnOk result (out.new ≡ out.old ++ step_line c.now trace.now t net) }
 {
     let after = bit_at(trace, net, t);
@@ -48,7 +48,7 @@ fn add_step_of(
     c: &Circuit,
     trace: &Trace,
     cone: &NetSet,
-    t: u16,
+    t: u32,
     net: u32,
 ) -> Result<(), NoMemory>
     ensures { OnOk result (out.new
@@ -67,7 +67,7 @@ fn add_tick(
     c: &Circuit,
     trace: &Trace,
     cone: &NetSet,
-    t: u16,
+    t: u32,
 ) -> Result<(), NoMemory>
     ensures { OnOk result (out.new
         ≡ out.old ++ tick_text c.now trace.now (marked_in cone.now) t) }
@@ -85,16 +85,16 @@ pub fn add_steps(
     c: &Circuit,
     trace: &Trace,
     cone: &NetSet,
-    last: u16,
+    last: u32,
 ) -> Result<(), NoMemory>
     ensures { OnOk result (out.new
         ≡ out.old ++ steps_text c.now trace.now (marked_in cone.now) last) }
 {
-    let end = u32::from(last) + 1;
-    let period = u32::from(c.header().period());
+    let end = u64::from(last) + 1;
+    let period = u64::from(c.header().period());
     let first = max(1, end.saturating_sub(period));
     for t in first..end {
-        add_tick(out, c, trace, cone, t as u16)?;
+        add_tick(out, c, trace, cone, t as u32)?;
     }
     Ok(())
 }

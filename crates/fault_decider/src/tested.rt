@@ -27,12 +27,12 @@ use wave_core::{CyclicWave, SlotWave};
 
 /// Whether an input changes after the setup time before one tick begins, and before the hold time
 /// after another ends.
-fn is_near(i: &Instance, first: u16, last: u16, change: u16) -> bool
+fn is_near(i: &Instance, first: u32, last: u32, change: u32) -> bool
     ensures not_before { IsTrue result → first + 1 ≤ change + setup_of i.now.limits }
     ensures not_after { IsTrue result → change ≤ last + hold_of i.now.limits }
 {
-    u32::from(first) + 1 <= u32::from(change) + u32::from(i.limits.setup())
-        && u32::from(change) <= u32::from(last) + u32::from(i.limits.hold())
+    u64::from(first) + 1 <= u64::from(change) + u64::from(i.limits.setup())
+        && u64::from(change) <= u64::from(last) + u64::from(i.limits.hold())
 }
 
 /// Whether the clock of a checker rises at one tick and its input changes at the other, too near to
@@ -41,11 +41,11 @@ fn is_near(i: &Instance, first: u16, last: u16, change: u16) -> bool
 fn is_edge_break(
     i: &Instance,
     wires: &[u16],
-    from: u16,
-    ticks: u16,
+    from: u32,
+    ticks: u32,
     bits: &[Levels],
-    rise: u16,
-    change: u16,
+    rise: u32,
+    change: u32,
 ) -> bool
     ensures { (choices : List Chosen) (pick : ℕ × ℕ) → IsTrue result →
         IsSetupHoldBreak (run_of ticks choices bits.now) i.now (chosen pick wires.now)
@@ -65,12 +65,12 @@ fn is_edge_break(
 fn is_high_break(
     i: &Instance,
     wires: &[u16],
-    from: u16,
-    ticks: u16,
+    from: u32,
+    ticks: u32,
     bits: &[Levels],
-    rise: u16,
-    fall: u16,
-    change: u16,
+    rise: u32,
+    fall: u32,
+    change: u32,
 ) -> bool
     ensures { (choices : List Chosen) (pick : ℕ × ℕ) → IsTrue result →
         IsRiseFallBreak (run_of ticks choices bits.now) i.now (chosen pick wires.now)
@@ -89,12 +89,12 @@ fn is_high_break(
 fn is_width_break(
     i: &Instance,
     wires: &[u16],
-    from: u16,
-    ticks: u16,
+    from: u32,
+    ticks: u32,
     bits: &[Levels],
     high: bool,
-    start: u16,
-    end: u16,
+    start: u32,
+    end: u32,
 ) -> bool
     ensures { (choices : List Chosen) (pick : ℕ × ℕ) → IsTrue result →
         IsWidthBreak (run_of ticks choices bits.now) i.now (chosen pick wires.now)
@@ -108,7 +108,7 @@ fn is_width_break(
     counts(wires, 0, from, ticks, start)
         && counts(wires, 0, from, ticks, end)
         && is_pulse(bits, i, wires, high, start, end)
-        && u32::from(end) < u32::from(start) + u32::from(width)
+        && u64::from(end) < u64::from(start) + u64::from(width)
 }
 
 /// Whether a pin is marked.
@@ -127,10 +127,10 @@ fn is_mark_break(
     i: &Instance,
     wires: &[u16],
     closed: bool,
-    from: u16,
-    ticks: u16,
+    from: u32,
+    ticks: u32,
     bits: &[Levels],
-    tick: u16,
+    tick: u32,
     marked: u16,
     pin: u16,
 ) -> bool
@@ -151,8 +151,8 @@ fn is_mark_break(
 fn is_form_break(
     i: &Instance,
     wires: &[u16],
-    from: u16,
-    ticks: u16,
+    from: u32,
+    ticks: u32,
     bits: &[Levels],
     named: Named,
 ) -> bool
@@ -189,8 +189,8 @@ fn is_pulse_break(
     i: &Instance,
     wires: &[u16],
     high: bool,
-    from: u16,
-    ticks: u16,
+    from: u32,
+    ticks: u32,
     bits: &[Levels],
     named: Named,
 ) -> bool
@@ -209,7 +209,7 @@ fn is_pulse_break(
 }
 
 /// The bit of a net at a tick.
-fn bit_at(bits: &[Levels], net: u32, t: u16) -> bool
+fn bit_at(bits: &[Levels], net: u32, t: u32) -> bool
     ensures { result ≡ bit_of bits.now net t }
 {
     match bits.get(net as usize) {
@@ -235,7 +235,7 @@ fn lacks<W: CyclicWave<Item = Value>>(
     h: &Header,
     spec: &AssertSpec,
     wide: &W,
-    t: u16,
+    t: u32,
     before: bool,
     after: bool,
 ) -> bool
@@ -244,7 +244,9 @@ fn lacks<W: CyclicWave<Item = Value>>(
     ensures { IsTrue result → has (wide_at h.now spec.now t) before after ≡ false }
 {
     let _ = spec;
-    !wide.at(t % h.period()).permits(Step { before, after })
+    !wide
+        .at((t % u32::from(h.period())) as u16)
+        .permits(Step { before, after })
 }
 
 /// Whether the bits of a net step at a tick as its assertion does not have it.
@@ -254,7 +256,7 @@ fn lacks_step(
     spec: &AssertSpec,
     bits: &[Levels],
     net: u32,
-    tick: u16,
+    tick: u32,
 ) -> Result<bool, NoMemory>
     requires { 1 ≤ tick }
     ensures { IfOk result (λ is. IsTrue is → has (wide_at h.now spec.now tick)
@@ -272,10 +274,10 @@ fn is_step_break(
     alloc: Global,
     c: &Circuit,
     net: u32,
-    from: u16,
-    ticks: u16,
+    from: u32,
+    ticks: u32,
     bits: &[Levels],
-    tick: u16,
+    tick: u32,
 ) -> Result<bool, NoMemory>
     ensures { (choices : List Chosen) → IfOk result (λ is. IsTrue is →
         IsAtNet c.now (run_of ticks choices bits.now) net from tick) }
@@ -300,10 +302,10 @@ pub fn is_break(
     alloc: Global,
     c: &Circuit,
     choice: &Choice,
-    ticks: u16,
+    ticks: u32,
     bits: &[Levels],
     x: Constraint,
-    from: u16,
+    from: u32,
     named: Named,
 ) -> Result<bool, NoMemory>
     ensures { IfOk result (λ is. IsTrue is →
@@ -325,10 +327,10 @@ pub fn is_break(
 fn is_at_instance(
     c: &Circuit,
     choice: &Choice,
-    ticks: u16,
+    ticks: u32,
     bits: &[Levels],
     k: u32,
-    from: u16,
+    from: u32,
     named: Named,
 ) -> bool
     ensures { IsTrue result →
@@ -348,11 +350,11 @@ fn is_at_instance(
 fn is_at_pulse(
     c: &Circuit,
     choice: &Choice,
-    ticks: u16,
+    ticks: u32,
     bits: &[Levels],
     k: u32,
     high: bool,
-    from: u16,
+    from: u32,
     named: Named,
 ) -> bool
     ensures { IsTrue result →

@@ -1,11 +1,12 @@
 //! The faults of a case, each with what is said of it, or the trace of one of them.
 
-ghost use Rattle.std.specs.Prelude.{◌≡◌, ◌++◌, ◌∷◌, ℕ, [], List, OnOk};
+ghost use Rattle.std.specs.Prelude.{◌≡◌, ◌++◌, ◌∷◌, ℕ, [], List, IfOk, OnOk};
 ghost use Rattle.case_analysis.specs.Case.{NetsExist};
 ghost use Rattle.flat_circuit.specs.declared.fault.Fault.{Fault as FaultOf};
 ghost use Rattle.listing.specs.Fault.{fault_line};
 ghost use Rattle.narrowing.specs.Constraint.{constraint_of};
 ghost use Rattle.fault_decider.specs.Lines.{AreLines};
+ghost use Rattle.fault_decider.specs.Verdict.{IsVerdict};
 ghost use Rattle.fault_decider.specs.Reporting.{AreSought, AreTold, IsTold, TraceAdded};
 
 use crate::answer::{Answer, Question, one_more};
@@ -53,6 +54,22 @@ fn add_told(
     add_lines(&mut answer.bytes, alloc, c, values, fault, verdict)
 }
 
+/// What is said of a fault, in a report and for its trace alike.
+fn decided(
+    alloc: Global,
+    c: &Circuit,
+    values: &Case,
+    fault: Fault,
+    tick: u64,
+    question: Question,
+) -> Result<Verdict, NoMemory>
+    requires { NetsExist c.now values.now }
+    ensures { IfOk result (IsVerdict c.now values.now (constraint_of fault) tick) }
+{
+    let effort = question.request.effort;
+    decide(alloc, c, values, constraint_of(fault), tick, effort)
+}
+
 /// One fault more.
 fn add_fault(
     answer: &mut Answer,
@@ -68,9 +85,7 @@ fn add_fault(
         AreTold c.now values.now tick before start answer.old →
         AreTold c.now values.now tick (before ++ fault ∷ []) start answer.new) }
 {
-    let x = constraint_of(fault);
-    let effort = question.request.effort;
-    let verdict = decide(alloc, c, values, x, tick, effort)?;
+    let verdict = decided(alloc, c, values, fault, tick, question)?;
     add_told(answer, alloc, c, values, fault, &verdict)
 }
 
@@ -107,9 +122,7 @@ fn seek_trace(
     if answer.faults != wanted {
         return Ok(());
     }
-    let x = constraint_of(fault);
-    let effort = question.request.effort;
-    let verdict = decide(alloc, c, values, x, tick, effort)?;
+    let verdict = decided(alloc, c, values, fault, tick, question)?;
     add_trace(answer, c, &verdict)
 }
 

@@ -9,20 +9,20 @@ use std::cmp::max;
 #[derive(Clone, Copy, PartialEq, Eq, Debug)]
 pub enum Named {
     /// A clock rises, and an input changes too near to that.
-    Edge { rise: u16, change: u16 },
+    Edge { rise: u32, change: u32 },
     /// A clock rises and next falls, and an input changes too near to that.
-    High { rise: u16, fall: u16, change: u16 },
+    High { rise: u32, fall: u32, change: u32 },
     /// A pulse begins and ends.
-    Pulse { start: u16, end: u16 },
+    Pulse { start: u32, end: u32 },
     /// A pin changes while the marked one lets it through. Pins go by their places, from 0.
-    Mark { tick: u16, marked: u16, pin: u16 },
+    Mark { tick: u32, marked: u16, pin: u16 },
     /// A net steps as its assertion does not have it.
-    Step(u16),
+    Step(u32),
 }
 
 impl Named {
     /// The greatest of the ticks.
-    pub fn last(self) -> u16
+    pub fn last(self) -> u32
         ensures { result ≡ last_of self }
     {
         match self {

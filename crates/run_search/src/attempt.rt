@@ -15,7 +15,7 @@ use trace_sim::{Choice, Levels, Traces};
 /// What is alike in all tries.
 #[derive(Clone, Copy, Debug)]
 pub struct Length {
-    pub ticks: u16,
+    pub ticks: u32,
     /// The number of the try.
     pub number: u64,
 }

@@ -13,9 +13,9 @@ use trace_sim::{Choice, Levels};
 use wave_core::{CyclicWave, SlotWave};
 
 /// Whether an input changes after the setup time before an edge begins.
-fn is_late(i: &Instance, edge: u16, change: Option<u16>) -> Option<u16> {
+fn is_late(i: &Instance, edge: u32, change: Option<u32>) -> Option<u32> {
     let change = change?;
-    if u32::from(edge) < u32::from(change) + u32::from(i.limits.setup()) {
+    if u64::from(edge) < u64::from(change) + u64::from(i.limits.setup()) {
         Some(change)
     } else {
         None
@@ -23,13 +23,13 @@ fn is_late(i: &Instance, edge: u16, change: Option<u16>) -> Option<u16> {
 }
 
 /// Whether an input changes before the hold time after an edge ends.
-fn is_early(i: &Instance, edge: u16, change: u16) -> bool {
-    u32::from(change) <= u32::from(edge) + u32::from(i.limits.hold())
+fn is_early(i: &Instance, edge: u32, change: u32) -> bool {
+    u64::from(change) <= u64::from(edge) + u64::from(i.limits.hold())
 }
 
 /// The first break about the rises of a clock. What matters before a tick are the last rise and the
 /// last change of the input.
-fn find_edge(i: &Instance, wires: &[u16], from: u16, ticks: u16, bits: &[Levels]) -> Option<Named> {
+fn find_edge(i: &Instance, wires: &[u16], from: u32, ticks: u32, bits: &[Levels]) -> Option<Named> {
     let mut last_rise = None;
     let mut last_change = None;
     for t in from..ticks {
@@ -52,7 +52,7 @@ fn find_edge(i: &Instance, wires: &[u16], from: u16, ticks: u16, bits: &[Levels]
 }
 
 /// The first break about a clock that rises and next falls.
-fn find_high(i: &Instance, wires: &[u16], from: u16, ticks: u16, bits: &[Levels]) -> Option<Named> {
+fn find_high(i: &Instance, wires: &[u16], from: u32, ticks: u32, bits: &[Levels]) -> Option<Named> {
     let mut rise = None;
     let mut last_high = None;
     let mut last_change = None;
@@ -92,8 +92,8 @@ fn find_pulse(
     i: &Instance,
     wires: &[u16],
     high: bool,
-    from: u16,
-    ticks: u16,
+    from: u32,
+    ticks: u32,
     bits: &[Levels],
 ) -> Option<Named> {
     let width = if high {
@@ -107,7 +107,7 @@ fn find_pulse(
             if shows(bits, i, wires, 0, t) == high {
                 start = Some(t);
             } else if let Some(start) = start {
-                if u32::from(t) < u32::from(start) + u32::from(width) {
+                if u64::from(t) < u64::from(start) + u64::from(width) {
                     return Some(Named::Pulse { start, end: t });
                 }
             }
@@ -133,10 +133,10 @@ fn changing_pin(
     i: &Instance,
     wires: &[u16],
     marked: u16,
-    from: u16,
-    ticks: u16,
+    from: u32,
+    ticks: u32,
     bits: &[Levels],
-    t: u16,
+    t: u32,
 ) -> Option<u16> {
     let pins = u16::try_from(i.pins.len()).ok()?;
     for pin in 0..pins {
@@ -148,7 +148,7 @@ fn changing_pin(
 }
 
 /// The first tick at which a pin changes while the marked one lets it through.
-fn find_mark(i: &Instance, wires: &[u16], from: u16, ticks: u16, bits: &[Levels]) -> Option<Named> {
+fn find_mark(i: &Instance, wires: &[u16], from: u32, ticks: u32, bits: &[Levels]) -> Option<Named> {
     let closed = i.kind.closes()?;
     let marked = marked_pin(i)?;
     for t in from..ticks {
@@ -171,8 +171,8 @@ fn find_step(
     h: &Header,
     spec: &AssertSpec,
     row: &Levels,
-    from: u16,
-    ticks: u16,
+    from: u32,
+    ticks: u32,
 ) -> Result<Option<Named>, NoMemory> {
     let wide: SlotWave<Value> = wide_wave(alloc, spec, h)?;
     let mut before = None;
@@ -185,7 +185,7 @@ fn find_step(
                 before,
                 after: *after,
             };
-            if from <= t && !wide.at(t % h.period()).permits(step) {
+            if from <= t && !wide.at((t % u32::from(h.period())) as u16).permits(step) {
                 return Ok(Some(Named::Step(t)));
             }
         }
@@ -195,7 +195,7 @@ fn find_step(
 }
 
 /// The first break of what an instance asks for beside widths.
-fn find_in(i: &Instance, wires: &[u16], from: u16, ticks: u16, bits: &[Levels]) -> Option<Named> {
+fn find_in(i: &Instance, wires: &[u16], from: u32, ticks: u32, bits: &[Levels]) -> Option<Named> {
     match i.kind.form() {
         Form::Gate => find_mark(i, wires, from, ticks, bits),
         Form::Checker(Check::SetupHold) => find_edge(i, wires, from, ticks, bits),
@@ -217,10 +217,10 @@ pub fn find_break(
     alloc: Global,
     c: &Circuit,
     choice: &Choice,
-    ticks: u16,
+    ticks: u32,
     bits: &[Levels],
     x: Constraint,
-    from: u16,
+    from: u32,
 ) -> Result<Option<Named>, NoMemory> {
     match x {
         Constraint::Instance(k) => Ok(match find_at(c, choice, k) {

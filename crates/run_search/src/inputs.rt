@@ -9,7 +9,7 @@ use std::alloc::Global;
 use trace_sim::{Levels, skew_of, slot_back};
 
 /// One bit for ever.
-pub fn constant(alloc: Global, one: bool, ticks: u16) -> Result<Levels, NoMemory> {
+pub fn constant(alloc: Global, one: bool, ticks: u32) -> Result<Levels, NoMemory> {
     let mut row = Levels::new(alloc);
     for _ in 0..ticks {
         row.push(one)?;
@@ -21,7 +21,7 @@ pub fn constant(alloc: Global, one: bool, ticks: u16) -> Result<Levels, NoMemory
 pub fn free_row<R: Rng>(
     alloc: Global,
     rng: &mut R,
-    ticks: u16,
+    ticks: u32,
     calm: bool,
 ) -> Result<Levels, NoMemory> {
     let mut row = Levels::new(alloc);
@@ -38,7 +38,7 @@ pub fn free_row<R: Rng>(
 }
 
 /// The bit of an ideal clock that comes early, or one that comes late.
-fn clock_bit(clock: &ClockSpec, h: &Header, skew: (u16, u16), late: bool, t: u16) -> bool {
+fn clock_bit(clock: &ClockSpec, h: &Header, skew: (u16, u16), late: bool, t: u32) -> bool {
     let slot = if late {
         slot_back(h, t as usize, skew.1 as usize)
     } else {
@@ -53,7 +53,7 @@ fn shifted(
     clock: &ClockSpec,
     h: &Header,
     late: bool,
-    ticks: u16,
+    ticks: u32,
 ) -> Result<Levels, NoMemory> {
     let skew = skew_of(clock, h.pskew);
     let mut row = Levels::new(alloc);
@@ -70,7 +70,7 @@ fn moved(
     h: &Header,
     late_rise: bool,
     late_fall: bool,
-    ticks: u16,
+    ticks: u32,
 ) -> Result<Levels, NoMemory> {
     let skew = skew_of(clock, h.cskew);
     let mut row = Levels::new(alloc);
@@ -90,7 +90,7 @@ fn moved(
 
 /// Whether a net that is stable in these intervals may change in the slot of a tick; a calm one
 /// changes only in the first and in the last slot between two intervals.
-fn may_change(spans: &Spans, h: &Header, t: u16, calm: bool) -> bool {
+fn may_change(spans: &Spans, h: &Header, t: u32, calm: bool) -> bool {
     let t = t as usize;
     if quiet(spans, h, slot_back(h, t, 0)) {
         return false;
@@ -104,7 +104,7 @@ fn stable<R: Rng>(
     rng: &mut R,
     spans: &Spans,
     h: &Header,
-    ticks: u16,
+    ticks: u32,
     calm: bool,
 ) -> Result<Levels, NoMemory> {
     let mut row = Levels::new(alloc);
@@ -136,7 +136,7 @@ pub fn input_row<R: Rng>(
     net: &Net,
     value: Option<bool>,
     late: bool,
-    ticks: u16,
+    ticks: u32,
     calm: bool,
 ) -> Result<Levels, NoMemory> {
     if let Some(one) = value {

@@ -22,7 +22,7 @@ pub struct Found {
     /// What it is made from: inputs and free bits may go on past its end.
     pub choice: Choice,
     /// How many ticks it has: as many as the break needs.
-    pub ticks: u16,
+    pub ticks: u32,
     pub bits: Traces,
     pub named: Named,
 }
@@ -52,7 +52,7 @@ fn fronts(alloc: Global, rows: &[Levels], ticks: usize) -> Result<Traces, NoMemo
 /// A run up to its break.
 #[derive(Drop)]
 struct Cut {
-    ticks: u16,
+    ticks: u32,
     bits: Traces,
     named: Named,
 }
@@ -62,9 +62,9 @@ fn cut_at_break(
     alloc: Global,
     c: &Circuit,
     x: Constraint,
-    from: u16,
+    from: u32,
     choice: &Choice,
-    ticks: u16,
+    ticks: u32,
 ) -> Result<Option<Cut>, NoMemory>
     requires { ChoiceFits c.now choice.now ticks }
     ensures { IfOk result (λ found. IfSome found (λ b.
@@ -89,7 +89,7 @@ fn try_once(
     c: &Circuit,
     case: &Case,
     x: Constraint,
-    from: u16,
+    from: u32,
     clock: &NetSet,
     length: Length,
 ) -> Result<Option<Found>, NoMemory>
@@ -118,8 +118,8 @@ pub fn find_run(
     c: &Circuit,
     case: &Case,
     x: Constraint,
-    from: u16,
-    ticks: u16,
+    from: u32,
+    ticks: u32,
     first: u64,
     tries: u16,
 ) -> Result<Option<Found>, NoMemory>

@@ -29,7 +29,7 @@ const FORMS: &str = "usage:
     scald chains <DRAWING                              where each fault comes from
     scald sections <DRAWINGS                           verify of drawings with a line ===== between them, each by itself and joined
     scald decide [effort=N] [trace=I] <DRAWING         each fault shown by a run, or refuted; the run of the I-th as a trace
-    scald run T SEED [case=K] [long] <DRAWING          a run of T ticks that a seed draws, 1 to 4096, or with long 65535, as a trace
+    scald run T SEED [case=K] [long] <DRAWING          a run of T ticks that a seed draws, 1 to 4096, or with long 1048576, as a trace
     scald vcd T SEED [case=K] [tick=1ns] <DRAWING      the same run as a value change dump, for a wave viewer
     scald judge F [long] <TRACE-AND-DRAWING            whether the trace is a run, and what breaks in it from tick F on
     scald draw [faults|waves] [rounds=N] <DRAWING      a page of the broken limits and of the waves of all cases, or of one of both

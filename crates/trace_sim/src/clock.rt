@@ -19,7 +19,7 @@ pub fn skew_of(clock: &ClockSpec, default: (u16, u16)) -> (u16, u16)
 
 /// The slot so many before that of a tick.
 pub fn slot_back(h: &Header, tick: usize, by: usize) -> u16
-    requires { (tick < 2 ^ 20) × (by < 2 ^ 32) }
+    requires { (tick < 2 ^ 33) × (by < 2 ^ 32) }
     ensures is { result ≡ slots_back (period h.now) tick by }
     ensures within { result < period h.now }
 {

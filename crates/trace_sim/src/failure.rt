@@ -35,7 +35,7 @@ fn failing(
     t: usize,
     bits: &[Levels],
 ) -> Result<Option<u32>, NoMemory>
-    requires short { t < 2 ^ 16 }
+    requires short { t < 2 ^ 32 }
     requires row { (i : Element) (at : Chosen) → slice_get c.now.instances k ≡ Some i →
         slice_get (choices_of choice.now) k ≡ Some at → row ≡ row_in (seen bits.now) i at t }
     ensures { IfOk result (λ net. (i : Element) (at : Chosen) →
@@ -74,7 +74,7 @@ fn first_at(
     rows: &[usize],
     bits: &[Levels],
 ) -> Result<Option<u32>, NoMemory>
-    requires short { t < 2 ^ 16 }
+    requires short { t < 2 ^ 32 }
     requires picks { ArePicks c.now choice.now }
     requires long { length rows.now ≡ length c.now.instances }
     requires rows { AreRows c.now (choices_of choice.now) bits.now rows.now t }
@@ -98,9 +98,9 @@ pub fn first_failure(
     alloc: Global,
     c: &Circuit,
     choice: &Choice,
-    ticks: u16,
+    ticks: u32,
     bits: &[Levels],
-) -> Result<Option<(u16, u32)>, NoMemory>
+) -> Result<Option<(u32, u32)>, NoMemory>
     requires { ArePicks c.now choice.now }
     ensures { IfOk result (λ first. let run = run_of ticks (choices_of choice.now) bits.now in
         MatchOption first (EachObeys c.now run) (λ f. FailsFirst c.now run f.0 f.1)) }

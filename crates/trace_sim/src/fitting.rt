@@ -12,7 +12,7 @@ use scald_base::Delay;
 
 /// Whether a choice has what `simulate` asks of it: delays within their bounds for each instance
 /// and each pin, and a bit of each net for each tick. It needs no allocation.
-pub fn choice_fits(c: &Circuit, choice: &Choice, ticks: u16) -> bool
+pub fn choice_fits(c: &Circuit, choice: &Choice, ticks: u32) -> bool
     ensures { MatchBool result (ChoiceFits c.now choice.now ticks)
         (¬ (ChoiceFits c.now choice.now ticks)) }
 {
@@ -128,7 +128,7 @@ fn wires_fit(c: &Circuit, pins: &[Pin], wires: &[u16]) -> bool
 }
 
 // Whether there are so many bits of each net.
-fn are_traces(c: &Circuit, traces: &Traces, ticks: u16) -> bool
+fn are_traces(c: &Circuit, traces: &Traces, ticks: u32) -> bool
     ensures { MatchBool result (AreTraces (length c.now.nets) ticks traces.now)
         (¬ (AreTraces (length c.now.nets) ticks traces.now)) }
 {

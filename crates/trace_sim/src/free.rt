@@ -57,7 +57,7 @@ pub(crate) fn draw_offsets<R: Rng>(
 }
 
 /// A bit for each of so many ticks.
-pub(crate) fn draw_bits<R: Rng>(alloc: Global, rng: &mut R, ticks: u16) -> Result<Levels, NoMemory>
+pub(crate) fn draw_bits<R: Rng>(alloc: Global, rng: &mut R, ticks: u32) -> Result<Levels, NoMemory>
     ensures { IfOk result (λ bits. (bits, R.stream rng.new) ≡ draw_bits ticks (R.stream rng.old)) }
 {
     let mut bits = Levels::new(alloc);
@@ -72,7 +72,7 @@ pub(crate) fn draw_rows<R: Rng>(
     alloc: Global,
     rng: &mut R,
     c: &Circuit,
-    ticks: u16,
+    ticks: u32,
 ) -> Result<Traces, NoMemory>
     ensures { IfOk result (λ rows. (rows, R.stream rng.new)
         ≡ draw_each (λ (n : ℕ). draw_bits ticks) c.now.order (R.stream rng.old)) }

@@ -24,7 +24,7 @@ fn bit_at(bits: &[bool], t: usize) -> bool
 // ---- stable nets
 
 fn held_bit(h: &Header, spans: &Spans, free: &[bool], t: usize, before: bool) -> bool
-    requires short { t < 2 ^ 16 }
+    requires short { t < 2 ^ 32 }
     requires before { 1 ≤ t → before ≡ held h.now spans.now (bits_in free.now) (t - 1) }
     ensures { result ≡ held h.now spans.now (bits_in free.now) t }
 {
@@ -48,7 +48,7 @@ fn still_bit(h: &Header, free: &[bool], t: usize, before: bool) -> bool
 // ---- clocks
 
 fn shifted_bit(clock: &ClockSpec, h: &Header, skew: (u16, u16), by: u32, t: usize) -> bool
-    requires { t < 2 ^ 16 }
+    requires { t < 2 ^ 32 }
     ensures { result ≡ shifted clock.now h.now skew by t }
 {
     ideal(clock, h, slot_back(h, t + skew.0 as usize, by as usize))
@@ -109,7 +109,7 @@ fn moved_bit(
     t: usize,
     before: bool,
 ) -> bool
-    requires short { t < 2 ^ 16 }
+    requires short { t < 2 ^ 32 }
     requires before { 1 ≤ t → before ≡ moved clock.now h.now skew (bits_in free.now) (t - 1) }
     ensures { result ≡ moved clock.now h.now skew (bits_in free.now) t }
 {
@@ -154,7 +154,7 @@ fn asserted_bit(
     t: usize,
     before: bool,
 ) -> bool
-    requires short { t < 2 ^ 16 }
+    requires short { t < 2 ^ 32 }
     requires before { 1 ≤ t → before ≡ asserted h.now spec.now by (bits_in free.now) (t - 1) }
     ensures { result ≡ asserted h.now spec.now by (bits_in free.now) t }
 {
@@ -175,7 +175,7 @@ fn given_bit(
     t: usize,
     before: bool,
 ) -> bool
-    requires short { t < 2 ^ 16 }
+    requires short { t < 2 ^ 32 }
     requires before { 1 ≤ t → before
         ≡ given_in h.now value (Some net.now) by (bits_in free.now) (t - 1) }
     ensures { result ≡ given_in h.now value (Some net.now) by (bits_in free.now) t }
@@ -197,7 +197,7 @@ pub(crate) fn given_row(
     net: &Net,
     by: u32,
     free: &[bool],
-    ticks: u16,
+    ticks: u32,
 ) -> Result<Levels, NoMemory>
     ensures { IfOk result (λ row. row
         ≡ map (given_in h.now value (Some net.now) by (bits_in free.now))

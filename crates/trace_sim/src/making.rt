@@ -22,7 +22,7 @@ use std::alloc::Global;
 /// The run of this choice: with these delays, these inputs, and the free bits if no equation
 /// fixes a bit. The choice fits the circuit: there are delays within their bounds for each instance
 /// and each pin, and a bit for each net and tick. Takes a time linear in pins times ticks.
-pub fn simulate(alloc: Global, c: &Circuit, choice: &Choice, ticks: u16) -> Result<Traces, NoMemory>
+pub fn simulate(alloc: Global, c: &Circuit, choice: &Choice, ticks: u32) -> Result<Traces, NoMemory>
     requires { ChoiceFits c.now choice.now ticks }
     ensures { IfOk result (λ traces. IsSimulated c.now choice.now ticks traces) }
 {
@@ -96,7 +96,7 @@ fn pass(
     t: usize,
     bits: &mut [Levels],
 ) -> Result<(), NoMemory>
-    requires short { t < 2 ^ 16 }
+    requires short { t < 2 ^ 32 }
     requires long { length rows.now ≡ length c.now.instances }
     requires rows { AreRows c.now (choices_of choice.now) bits.old rows.now t }
     ensures made { OnOk result ((ticks : ℕ) → bits.new
@@ -119,7 +119,7 @@ fn evaluate(
     t: usize,
     bits: &mut [Levels],
 ) -> Result<(), NoMemory>
-    requires short { t < 2 ^ 16 }
+    requires short { t < 2 ^ 32 }
     requires long { length rows.now ≡ length c.now.instances }
     requires rows { AreRows c.now (choices_of choice.now) bits.old rows.now t }
     ensures made { OnOk result ((ticks : ℕ) → bits.new
@@ -165,7 +165,7 @@ pub(crate) fn fixed_bit(
     t: usize,
     bits: &[Levels],
 ) -> Result<Option<bool>, NoMemory>
-    requires short { t < 2 ^ 16 }
+    requires short { t < 2 ^ 32 }
     requires row { row ≡ row_in (seen bits.now) i.now (chosen delays wires.now) t }
     ensures { IfOk result (λ bit. bit
         ≡ fixed_in (seen bits.now) i.now (chosen delays wires.now) t) }
@@ -197,7 +197,7 @@ fn by_form(
     t: usize,
     bits: &[Levels],
 ) -> Result<Option<bool>, NoMemory>
-    requires short { t < 2 ^ 16 }
+    requires short { t < 2 ^ 32 }
     requires row { row ≡ row_in (seen bits.now) i.now (chosen delays wires.now) t }
     ensures { IfOk result (λ bit. bit ≡ fixed (form_of i.now.kind) i.now.kind i.now.delay
         (chosen delays wires.now) (pin_signals (seen bits.now) i.now.pins wires.now)

@@ -88,7 +88,7 @@ fn row_at(
     before: usize,
     bits: &[Levels],
 ) -> Result<usize, NoMemory>
-    requires short { t < 2 ^ 16 }
+    requires short { t < 2 ^ 32 }
     requires before { before ≡ row_in (seen bits.now) i.now (chosen delays wires.now) t }
     ensures { IfOk result (λ row. row
         ≡ row_in (seen bits.now) i.now (chosen delays wires.now) (t + 1)) }
@@ -114,7 +114,7 @@ pub(crate) fn is_held(
     before: usize,
     bits: &[Levels],
 ) -> Result<bool, NoMemory>
-    requires short { t < 2 ^ 16 }
+    requires short { t < 2 ^ 32 }
     requires before { before ≡ row_in (seen bits.now) i.now (chosen delays wires.now) t }
     ensures { IfOk result (λ held.
         let choice = chosen delays wires.now in let form = form_of i.now.kind in held
@@ -139,7 +139,7 @@ fn counted(
     before: usize,
     bits: &[Levels],
 ) -> Result<usize, NoMemory>
-    requires short { t < 2 ^ 16 }
+    requires short { t < 2 ^ 32 }
     requires before { (i : Element) (at : Chosen) → slice_get c.now.instances k ≡ Some i →
         slice_get (choices_of choice.now) k ≡ Some at → before ≡ row_in (seen bits.now) i at t }
     ensures { IfOk result (λ row. (i : Element) (at : Chosen) →
@@ -164,7 +164,7 @@ pub(crate) fn count_tick(
     bits: &[Levels],
     rows: &mut [usize],
 ) -> Result<(), NoMemory>
-    requires short { t < 2 ^ 16 }
+    requires short { t < 2 ^ 32 }
     requires long { length rows.old ≡ length c.now.instances }
     requires rows { AreRows c.now (choices_of choice.now) bits.now rows.old t }
     ensures long { OnOk result (length rows.new ≡ length c.now.instances) }

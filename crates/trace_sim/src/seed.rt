@@ -21,7 +21,7 @@ pub fn draw(
     alloc: Global,
     c: &Circuit,
     case: &Case,
-    ticks: u16,
+    ticks: u32,
     seed: u64,
 ) -> Result<Choice, NoMemory>
     ensures is { IfOk result (λ choice. IsDrawn c.now case.now ticks seed choice) }
@@ -47,7 +47,7 @@ fn given(
     alloc: Global,
     c: &Circuit,
     case: &Case,
-    ticks: u16,
+    ticks: u32,
     shifts: &[u32],
     free: &[Levels],
 ) -> Result<Traces, NoMemory>
@@ -77,7 +77,7 @@ fn row_at(
     alloc: Global,
     c: &Circuit,
     case: &Case,
-    ticks: u16,
+    ticks: u32,
     shifts: &[u32],
     free: &[Levels],
     place: u32,

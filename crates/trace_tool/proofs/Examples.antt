@@ -69,17 +69,17 @@ long : commands (
     (codes "run" ∷ codes "4096" ∷ codes "0" ∷ [])
     ∷ (codes "run" ∷ codes "6" ∷ codes "0" ∷ codes "long" ∷ [])
     ∷ (codes "run" ∷ codes "4097" ∷ codes "0" ∷ codes "long" ∷ [])
-    ∷ (codes "run" ∷ codes "65535" ∷ codes "0" ∷ codes "case=2" ∷ codes "long" ∷ [])
+    ∷ (codes "run" ∷ codes "1048576" ∷ codes "0" ∷ codes "case=2" ∷ codes "long" ∷ [])
     ∷ (codes "judge" ∷ codes "0" ∷ codes "long" ∷ [])
-    ∷ (codes "judge" ∷ codes "65535" ∷ codes "long" ∷ []) ∷ [])
-    ≡ Ok (Run (asked Trace 4096 0 None)) ∷ Ok (Run (asked Trace 6 0 None)) ∷ Ok (Run (asked Trace 4097 0 None)) ∷ Ok (Run (asked Trace 65535 0 (Some 2)))
-    ∷ Ok (Judge (trial 0 Long)) ∷ Ok (Judge (trial 65535 Long)) ∷ []
+    ∷ (codes "judge" ∷ codes "1048576" ∷ codes "long" ∷ []) ∷ [])
+    ≡ Ok (Run (asked Trace 4096 0 None)) ∷ Ok (Run (asked Trace 6 0 None)) ∷ Ok (Run (asked Trace 4097 0 None)) ∷ Ok (Run (asked Trace 1048576 0 (Some 2)))
+    ∷ Ok (Judge (trial 0 Long)) ∷ Ok (Judge (trial 1048576 Long)) ∷ []
 unfolding digits number_in
 long = refl
 
 wrong_long : commands (
     (codes "run" ∷ codes "4097" ∷ codes "0" ∷ [])
-    ∷ (codes "run" ∷ codes "65536" ∷ codes "0" ∷ codes "long" ∷ [])
+    ∷ (codes "run" ∷ codes "1048577" ∷ codes "0" ∷ codes "long" ∷ [])
     ∷ (codes "run" ∷ codes "6" ∷ codes "long" ∷ [])
     ∷ (codes "run" ∷ codes "6" ∷ codes "0" ∷ codes "long" ∷ codes "long" ∷ [])
     ∷ (codes "run" ∷ codes "6" ∷ codes "0" ∷ codes "long" ∷ codes "case=2" ∷ [])
@@ -91,7 +91,7 @@ unfolding digits number_in
 wrong_long = refl
 
 wrong_trials : commands (
-    (codes "judge" ∷ codes "65536" ∷ codes "long" ∷ [])
+    (codes "judge" ∷ codes "1048577" ∷ codes "long" ∷ [])
     ∷ (codes "judge" ∷ codes "long" ∷ [])
     ∷ (codes "judge" ∷ codes "0" ∷ codes "long" ∷ codes "long" ∷ [])
     ∷ (codes "judge" ∷ codes "0" ∷ codes "long" ∷ codes "1" ∷ []) ∷ [])

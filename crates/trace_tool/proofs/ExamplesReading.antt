@@ -14,7 +14,7 @@ use Rattle.trace_tool.specs.declared.trace.Trace.{Trace}
 use Rattle.trace_tool.specs.Trace.{end_line, head_line, instance_line, line_order}
 use Rattle.trace_tool.specs.Reading.{HasFirst, HasNoTrace, HasTrace, IsLine, IsRight, IsWrongLine}
 use Rattle.trace_tool.proofs.Cutting.{each_byte, no_trace}
-use Rattle.trace_tool.proofs.Readback.{head_found}
+use Rattle.trace_tool.proofs.Heads.{head_found}
 use Rattle.trace_tool.proofs.ExamplesText.{checked, made, on}
 
 -- ---- where a trace ends
@@ -84,24 +84,18 @@ pub more_ticks : HasFirst Long checked (codes "TRACE 4097" ∷ end_line ∷ []) 
 more_ticks = record { trace = long_trace 4097; each = more_ticks_at }
 
 most_ticks_at : (j : ℕ) → j < 1 →
-    IsRight Long checked (long_trace 65535) (slice_get (line_order checked) j) (slice_get (codes "TRACE 65535" ∷ end_line ∷ []) j)
+    IsRight Long checked (long_trace 1048576) (slice_get (line_order checked) j) (slice_get (codes "TRACE 1048576" ∷ end_line ∷ []) j)
 unfolding digits
 most_ticks_at zero below = ((omega arith, omega arith), refl)
 most_ticks_at (suc j) below = absurd (omega (arith, below))
 
-pub most_long_ticks : HasFirst Long checked (codes "TRACE 65535" ∷ end_line ∷ []) 1
-most_long_ticks = record { trace = long_trace 65535; each = most_ticks_at }
-
-last_digit : slice_index_or (head_line 65535) 10 0 ≡ 53
-unfolding digits
-last_digit = refl
+pub most_long_ticks : HasFirst Long checked (codes "TRACE 1048576" ∷ end_line ∷ []) 1
+most_long_ticks = record { trace = long_trace 1048576; each = most_ticks_at }
 
 -- and no more
-pub too_long : IsWrongLine Long checked (codes "TRACE 65536" ∷ end_line ∷ []) 1
-too_long = wrong_head Long (codes "TRACE 65536") (end_line ∷ []) (λ n some few same.
-    let is = head_found (codes "TRACE 65536") 65535 n refl few same in
-    let last = ap (λ (l : List ℕ). slice_index_or l 10 0) same ∙ ap (λ (k : ℕ). slice_index_or (head_line k) 10 0) (sym is) ∙ last_digit in
-    omega (arith, last))
+pub too_long : IsWrongLine Long checked (codes "TRACE 1048577" ∷ end_line ∷ []) 1
+too_long = wrong_head Long (codes "TRACE 1048577") (end_line ∷ []) (λ n some few same.
+    let is = head_found (codes "TRACE 1048577") 1048577 n refl (omega (arith, few)) same in omega (arith, few, is))
 
 six_long : length (head_line 6) ≡ 7
 unfolding digits

@@ -24,7 +24,7 @@ use Rattle.trace_tool.specs.Taking.{AreLong, IsRefused, IsTaken}
 use Rattle.trace_tool.proofs.Cutting.{or_right}
 use Rattle.trace_tool.proofs.Lines.{get_behind, line_at_bits, line_at_delays, line_at_end, line_count_is}
 use Rattle.trace_tool.proofs.Distinct.{at_head, at_delays, at_bits, at_end, below_or_not, once, only_head, place_of}
-use Rattle.trace_tool.proofs.Readback.{head_is_one, most_small}
+use Rattle.trace_tool.proofs.Heads.{head_is_one, most_small}
 
 -- so many lines are right
 abbrev pub AreRight : Extent → Circuit → Trace → List (List ℕ) → ℕ → Type 0

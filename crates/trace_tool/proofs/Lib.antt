@@ -25,6 +25,7 @@ pub mod Windows
 pub mod Lines
 pub mod Written
 pub mod Cutting
+pub mod Heads
 pub mod Readback
 pub mod Distinct
 pub mod Fronts

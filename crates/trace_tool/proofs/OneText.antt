@@ -14,7 +14,8 @@ use Rattle.trace_tool.proofs.Lines.{line_at_bits, line_at_delays}
 use Rattle.trace_tool.proofs.Digits.{digits_are, digits_behind}
 use Rattle.trace_tool.proofs.Distinct.{below_or_not}
 use Rattle.trace_tool.proofs.Fronts.{same_lists}
-use Rattle.trace_tool.proofs.Readback.{SayOne, head_is_one, most_small, one_line_says}
+use Rattle.trace_tool.proofs.Heads.{head_is_one, most_small}
+use Rattle.trace_tool.proofs.Readback.{SayOne, one_line_says}
 
 -- one line says one row
 one_row : (c : Circuit) (n : ℕ) (row other : List Bool) → net_line c n row ≡ net_line c n other → row ≡ other

@@ -20,10 +20,7 @@ use Rattle.flat_circuit.specs.Run.{DelayFitsForm, DelaysFit, WireFits, WiresFit}
 use Rattle.listing.specs.Text.{bit_text}
 use Rattle.listing.specs.Names.{instance_name}
 use Rattle.trace_sim.specs.Choice.{IsOneDelay, IsOneDelayForm, PickFits, chosen}
-use Rattle.trace_tool.specs.declared.extent.Extent.{Extent}
-use Rattle.trace_tool.specs.declared.extent.Extent.TheVariants.{Short, Long}
-use Rattle.trace_tool.specs.Extent.{most_ticks}
-use Rattle.trace_tool.specs.Trace.{delay_by, delay_text, head_line, instance_line, wires_text}
+use Rattle.trace_tool.specs.Trace.{delay_by, delay_text, instance_line, wires_text}
 use Rattle.trace_tool.specs.Reading.{IsPlain}
 use Rattle.trace_tool.specs.Scan.{AreSmall, IsGuess, again, closed, is_digit, numbers_after, numbers_of, picked, picks_by, picks_count, shown, with_digit}
 
@@ -82,17 +79,6 @@ pub number_read : (n : ℕ) (rest : List ℕ) → n ≤ 65535 → numbers_after 
 number_read n rest small =
     let w = written n (omega arith) in
     digits_read None (decimal n) rest w.digits ∙ ap (λ (o : Option ℕ). numbers_after o rest) (w.read small)
-
--- ---- lines
-
-pub head_read : (n : ℕ) → n ≤ 65535 → numbers_of (head_line n) ≡ n ∷ []
-head_read n small = number_read n [] small
-
--- one head says one number
-pub head_is_one : (m n : ℕ) → m ≤ 65535 → n ≤ 65535 → head_line m ≡ head_line n → m ≡ n
-head_is_one m n small few same =
-    let one : m ∷ [] ≡ n ∷ [] = sym (head_read m small) ∙ ap numbers_of same ∙ head_read n few in
-    ap (λ (xs : List ℕ). slice_index_or xs 0 0) one
 
 -- delays of wires, after a number that is begun
 pub wires_read : (begun : Option ℕ) (wires : List ℕ) → AreSmall wires → numbers_after begun (wires_text wires) ≡ closed begun ++ wires
@@ -251,18 +237,6 @@ all_small nets (p ∷ ps) [] each fit = absurd fit
 all_small nets (p ∷ ps) (w ∷ ws) each fit =
     All-cons (λ (n : ℕ). n ≤ 4095) w ws (each 0 p w (omega arith) refl fit.0)
     (all_small nets ps ws (λ k q wire below has fits. each (suc k) q wire (omega (arith, below)) has fits) fit.1)
-
--- ---- the head
-
--- a number that is read is no greater
-pub most_small : (e : Extent) → most_ticks e ≤ 65535
-most_small Short = omega arith
-most_small Long = omega arith
-
-pub head_found : (line : List ℕ) (first n : ℕ) → first ≡ slice_index_or (numbers_of line) 0 0 → n ≤ 65535 → line ≡ head_line n → first ≡ n
-head_found line first n is few same =
-    is ∙ ap (λ (l : List ℕ). slice_index_or (numbers_of l) 0 0) same
-    ∙ ap (λ (xs : List ℕ). slice_index_or xs 0 0) (head_read n few)
 
 -- ---- what a line does not show
 

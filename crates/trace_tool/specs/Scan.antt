@@ -33,8 +33,8 @@ pub record StartsWith (text line rest : List ℕ) : Type 0 where
 abbrev pub is_digit : ℕ → Bool
 is_digit b = nat_le 48 b && nat_le b 57
 
--- A number after one more digit. No number of a trace is greater than 65,534, so greater ones need
--- not be distinguished.
+-- A number after one more digit. No delay is greater than 4,095, so the greatest ones need not be
+-- distinguished.
 abbrev pub with_digit : Option ℕ → ℕ → ℕ
 with_digit None b = b - 48
 with_digit (Some n) b = min (n * 10 + (b - 48)) 65535

@@ -12,10 +12,10 @@ pub enum Format {
     Dump(TickLength),
 }
 
-/// A run of 1 to 65,535 ticks, drawn by a seed, and in a case of 1 to 256 if one is asked for.
+/// A run of 1 to 1,048,576 ticks, drawn by a seed, and in a case of 1 to 256 if one is asked for.
 #[derive(Clone, Copy, PartialEq, Eq, Debug)]
 pub struct Asked {
-    pub ticks: u16,
+    pub ticks: u32,
     pub seed: u64,
     pub case: Option<u16>,
     pub format: Format,
@@ -24,6 +24,6 @@ pub struct Asked {
 /// What is to be said of a trace of at most so many ticks, with breaks from a tick on.
 #[derive(Clone, Copy, PartialEq, Eq, Debug)]
 pub struct Trial {
-    pub from: u16,
+    pub from: u32,
     pub extent: Extent,
 }

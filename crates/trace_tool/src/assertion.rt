@@ -21,8 +21,8 @@ fn assertion_ends<W: CyclicWave<Item = Value>>(
     spec: &AssertSpec,
     wide: &W,
     row: &[bool],
-    from: u16,
-    t: u16,
+    from: u32,
+    t: u32,
 ) -> bool
     requires wide { W.cells wide.now ≡ wide_cells h.now spec.now }
     requires sized { length (W.cells wide.now) ≡ period h.now }
@@ -39,7 +39,7 @@ fn assertion_ends<W: CyclicWave<Item = Value>>(
         before: bit_at(row, t as usize - 1),
         after: bit_at(row, t as usize),
     };
-    !wide.at(t % h.period()).permits(step)
+    !wide.at((t % u32::from(h.period())) as u16).permits(step)
 }
 
 fn row_end(
@@ -47,9 +47,9 @@ fn row_end(
     h: &Header,
     spec: &AssertSpec,
     row: &[bool],
-    from: u16,
-    ticks: u16,
-) -> Result<Option<u16>, NoMemory>
+    from: u32,
+    ticks: u32,
+) -> Result<Option<u32>, NoMemory>
     ensures { IfOk result (λ found.
         FindsFirst (AssertionEnds h.now spec.now (row_signal row.now) from) ticks found) }
 {
@@ -68,10 +68,10 @@ pub fn net_end(
     alloc: Global,
     c: &Circuit,
     number: u32,
-    from: u16,
-    ticks: u16,
+    from: u32,
+    ticks: u32,
     bits: &[Levels],
-) -> Result<Option<u16>, NoMemory>
+) -> Result<Option<u32>, NoMemory>
     ensures { IfOk result (FindsFirst (NetEnds c.now bits.now number from) ticks) }
 {
     let Some(net) = c.net(number) else {

@@ -14,7 +14,7 @@ use listing::{Piece, add_pieces};
 use scald_base::{Bytes, NoMemory};
 
 /// What follows stands at this tick.
-pub fn add_time(out: &mut Bytes, tick: u16) -> Result<(), NoMemory>
+pub fn add_time(out: &mut Bytes, tick: u32) -> Result<(), NoMemory>
     ensures { OnOk result (out.new ≡ out.old ++ command_text (Time tick)) }
 {
     add_pieces(
@@ -28,7 +28,7 @@ pub fn add_time(out: &mut Bytes, tick: u16) -> Result<(), NoMemory>
 }
 
 /// The value of a variable of one bit.
-fn add_bit(out: &mut Bytes, c: &Circuit, rows: &Rows, s: Stretch, tick: u16) -> Result<(), NoMemory>
+fn add_bit(out: &mut Bytes, c: &Circuit, rows: &Rows, s: Stretch, tick: u32) -> Result<(), NoMemory>
     requires { s.to - s.from ≡ 1 }
     ensures { OnOk result (out.new ≡ out.old ++ command_text (value_of c.now rows.now tick s)) }
 {
@@ -43,7 +43,7 @@ fn add_bits(
     c: &Circuit,
     rows: &Rows,
     s: Stretch,
-    tick: u16,
+    tick: u32,
 ) -> Result<(), NoMemory>
     ensures { OnOk result (out.new ≡ out.old ++ vector_text (code_of s.number)
         (levels c.now rows.now tick s.from (s.to - s.from))) }
@@ -62,7 +62,7 @@ fn add_value(
     c: &Circuit,
     rows: &Rows,
     s: Stretch,
-    tick: u16,
+    tick: u32,
 ) -> Result<(), NoMemory>
     ensures { OnOk result (out.new ≡ out.old ++ command_text (value_of c.now rows.now tick s)) }
 {
@@ -79,7 +79,7 @@ pub fn add_all(
     c: &Circuit,
     rows: &Rows,
     all: &[Stretch],
-    tick: u16,
+    tick: u32,
 ) -> Result<(), NoMemory>
     ensures { OnOk result (out.new ≡ out.old
         ++ texts (map (value_of c.now rows.now tick) all.now)) }
@@ -91,7 +91,7 @@ pub fn add_all(
 }
 
 /// The value of a stretch at a tick, if it is another than at the tick before.
-fn add_if(out: &mut Bytes, c: &Circuit, rows: &Rows, s: Stretch, tick: u16) -> Result<(), NoMemory>
+fn add_if(out: &mut Bytes, c: &Circuit, rows: &Rows, s: Stretch, tick: u32) -> Result<(), NoMemory>
     ensures { OnOk result (out.new ≡ out.old ++ texts (value_if c.now rows.now tick s)) }
 {
     if steps(c, rows, s, tick) {
@@ -107,7 +107,7 @@ fn add_changed(
     c: &Circuit,
     rows: &Rows,
     all: &[Stretch],
-    tick: u16,
+    tick: u32,
 ) -> Result<(), NoMemory>
     ensures { OnOk result (out.new ≡ out.old
         ++ texts (flat_map (value_if c.now rows.now tick) all.now)) }
@@ -119,7 +119,7 @@ fn add_changed(
 }
 
 /// Whether one of them changes at a tick.
-fn any_steps(c: &Circuit, rows: &Rows, all: &[Stretch], tick: u16) -> bool
+fn any_steps(c: &Circuit, rows: &Rows, all: &[Stretch], tick: u32) -> bool
     ensures { result ≡ list_any (steps c.now rows.now tick) all.now }
 {
     all.iter().any(|s| steps(c, rows, *s, tick))
@@ -131,7 +131,7 @@ pub fn add_tick(
     c: &Circuit,
     rows: &Rows,
     all: &[Stretch],
-    tick: u16,
+    tick: u32,
 ) -> Result<(), NoMemory>
     ensures { OnOk result (out.new ≡ out.old
         ++ texts (tick_commands c.now rows.now all.now tick)) }

@@ -152,7 +152,7 @@ fn traced(
     alloc: Global,
     c: &Circuit,
     values: &Case,
-    ticks: u16,
+    ticks: u32,
     seed: u64,
 ) -> Result<Trace, NoMemory>
     requires { IsListed c.now values.now }

@@ -111,7 +111,7 @@ fn add_ticks(
     c: &Circuit,
     rows: &Rows,
     all: &[Stretch],
-    ticks: u16,
+    ticks: u32,
 ) -> Result<(), NoMemory>
     ensures { OnOk result (out.new ≡ out.old
         ++ texts (later_commands c.now rows.now all.now 1 (ticks - 1))) }
@@ -129,7 +129,7 @@ fn add_changes(
     c: &Circuit,
     rows: &Rows,
     all: &[Stretch],
-    ticks: u16,
+    ticks: u32,
 ) -> Result<(), NoMemory>
     requires { all.now ≡ stretches c.now }
     ensures { OnOk result (out.new ≡ out.old ++ texts (changes c.now rows.now ticks)) }
@@ -148,7 +148,7 @@ pub fn write_dump(
     name: &[u8],
     tick: TickLength,
     rows: &Rows,
-    ticks: u16,
+    ticks: u32,
 ) -> Result<Bytes, NoMemory>
     ensures { IfOk result (λ bytes. bytes ≡ dump_text tick name.now c.now rows.now ticks) }
 {

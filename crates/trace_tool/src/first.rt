@@ -19,7 +19,7 @@ use std::alloc::Global;
 use trace_sim::{Choice, Levels};
 
 // The first tick, from one on, up to which what an instance asks for is broken.
-fn form_end(i: &Instance, wires: &[u16], from: u16, ticks: u16, bits: &[Levels]) -> Option<u16>
+fn form_end(i: &Instance, wires: &[u16], from: u32, ticks: u32, bits: &[Levels]) -> Option<u32>
     ensures { FindsFirst
         (FormEnds (form_of i.now.kind) (closes_of i.now.kind) bits.now i.now wires.now from)
         ticks result }
@@ -44,10 +44,10 @@ fn instance_end(
     c: &Circuit,
     choice: &Choice,
     k: u32,
-    from: u16,
-    ticks: u16,
+    from: u32,
+    ticks: u32,
     bits: &[Levels],
-) -> Option<u16>
+) -> Option<u32>
     ensures { FindsFirst (InstanceEnds c.now (choices_of choice.now) bits.now k from) ticks result }
 {
     match c.instance(k) {
@@ -65,10 +65,10 @@ fn element_end(
     c: &Circuit,
     choice: &Choice,
     e: Element,
-    from: u16,
-    ticks: u16,
+    from: u32,
+    ticks: u32,
     bits: &[Levels],
-) -> Result<Option<u16>, NoMemory>
+) -> Result<Option<u32>, NoMemory>
     ensures { IfOk result
         (HasSoonest c.now (run_of ticks (choices_of choice.now) bits.now) from e) }
 {
@@ -82,7 +82,7 @@ fn element_end(
 }
 
 // The break that ends sooner, or the earlier one if both end with one tick.
-fn sooner(best: Option<(Element, u16)>, e: Element, end: Option<u16>) -> Option<(Element, u16)>
+fn sooner(best: Option<(Element, u32)>, e: Element, end: Option<u32>) -> Option<(Element, u32)>
     ensures { result ≡ sooner_of best e end }
 {
     match (best, end) {
@@ -106,10 +106,10 @@ pub fn first_break(
     alloc: Global,
     c: &Circuit,
     choice: &Choice,
-    ticks: u16,
+    ticks: u32,
     bits: &[Levels],
-    from: u16,
-) -> Result<Option<(Element, u16)>, NoMemory>
+    from: u32,
+) -> Result<Option<(Element, u32)>, NoMemory>
     ensures { IfOk result (λ found. let run = run_of ticks (choices_of choice.now) bits.now in
         MatchOption found (BreaksNever c.now run from) (λ b. BreaksFirst c.now run from b.1 b.0)) }
 {

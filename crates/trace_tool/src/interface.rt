@@ -40,7 +40,7 @@ fn is_edge(clock: &ClockSpec, h: &Header, to: bool, slot: u16) -> bool
 
 /// Whether the slot of a tick is in the region of an edge to this bit.
 fn is_near(clock: &ClockSpec, h: &Header, to: bool, t: usize) -> bool
-    requires { t < 2 ^ 16 }
+    requires { t < 2 ^ 32 }
     ensures { MatchBool result (NearEdge h.now clock.now to t) (¬ (NearEdge h.now clock.now to t)) }
 {
     let skew = skew_of(clock, h.cskew);
@@ -62,7 +62,7 @@ fn steps_from(near: bool, to: bool, before: bool, now: bool) -> bool
 
 /// Whether the bits on both sides of the slot of a tick are those of a clock whose edges move.
 fn keeps_clock(clock: &ClockSpec, h: &Header, t: usize, before: bool, now: bool) -> bool
-    requires { t < 2 ^ 16 }
+    requires { t < 2 ^ 32 }
     ensures { MatchBool result (KeepsClock h.now clock.now t before now)
         (¬ (KeepsClock h.now clock.now t before now)) }
 {
@@ -90,7 +90,7 @@ fn keeps_clock(clock: &ClockSpec, h: &Header, t: usize, before: bool, now: bool)
 }
 
 fn meets_clock(clock: &ClockSpec, h: &Header, row: &[bool]) -> bool
-    requires { length row.now < 2 ^ 16 }
+    requires { length row.now < 2 ^ 32 }
     ensures { MatchBool result (MeetsClock h.now clock.now (length row.now) (row_signal row.now))
         (¬ (MeetsClock h.now clock.now (length row.now) (row_signal row.now))) }
 {
@@ -106,7 +106,7 @@ fn meets_clock(clock: &ClockSpec, h: &Header, row: &[bool]) -> bool
 
 /// Whether the bits are those of the ideal clock, so much later than its earliest.
 fn is_shifted(clock: &ClockSpec, h: &Header, by: usize, row: &[bool]) -> bool
-    requires { (length row.now < 2 ^ 16) × (by < 2 ^ 32) }
+    requires { (length row.now < 2 ^ 32) × (by < 2 ^ 32) }
     ensures { MatchBool result (IsShifted h.now clock.now by row.now)
         (¬ (IsShifted h.now clock.now by row.now)) }
 {
@@ -120,7 +120,7 @@ fn is_shifted(clock: &ClockSpec, h: &Header, by: usize, row: &[bool]) -> bool
 }
 
 fn meets_precision(clock: &ClockSpec, h: &Header, row: &[bool]) -> bool
-    requires { length row.now < 2 ^ 16 }
+    requires { length row.now < 2 ^ 32 }
     ensures { MatchBool result (MeetsPrecision h.now clock.now (length row.now)
         (row_signal row.now))
         (¬ (MeetsPrecision h.now clock.now (length row.now) (row_signal row.now))) }
@@ -137,7 +137,7 @@ fn meets_precision(clock: &ClockSpec, h: &Header, row: &[bool]) -> bool
 // ---- stable nets
 
 fn meets_stable(spans: &Spans, h: &Header, row: &[bool]) -> bool
-    requires { length row.now < 2 ^ 16 }
+    requires { length row.now < 2 ^ 32 }
     ensures { MatchBool result (MeetsStable h.now spans.now (length row.now) (row_signal row.now))
         (¬ (MeetsStable h.now spans.now (length row.now) (row_signal row.now))) }
 {
@@ -164,7 +164,7 @@ fn is_constant(row: &[bool]) -> bool
 
 /// Whether the bits keep an assertion; those of a net without one do not change.
 pub fn meets(h: &Header, spec: &AssertSpec, row: &[bool]) -> bool
-    requires { length row.now < 2 ^ 16 }
+    requires { length row.now < 2 ^ 32 }
     ensures { MatchBool result (Meets h.now spec.now (length row.now) (row_signal row.now))
         (¬ (Meets h.now spec.now (length row.now) (row_signal row.now))) }
 {

@@ -93,9 +93,9 @@ fn judge_run(
     alloc: Global,
     c: &Circuit,
     choice: &Choice,
-    ticks: u16,
+    ticks: u32,
     bits: &[Levels],
-    from: u16,
+    from: u32,
 ) -> Result<Reply<TraceOutcome>, NoMemory>
     requires is_run { IsRun c.now (run_of ticks (choices_of choice.now) bits.now) }
     requires long { AreTraces (length c.now.nets) ticks bits.now }

@@ -22,7 +22,7 @@ fn row(rows: &Rows, net: u32) -> &[bool]
 }
 
 /// The bit of the net at a place at a tick; past the last tick, 0.
-fn level(c: &Circuit, rows: &Rows, place: u32, tick: u16) -> bool
+fn level(c: &Circuit, rows: &Rows, place: u32, tick: u32) -> bool
     ensures { result ≡ level c.now rows.now place tick }
 {
     match row(rows, c.net_at(place)).get(tick as usize) {
@@ -32,7 +32,7 @@ fn level(c: &Circuit, rows: &Rows, place: u32, tick: u16) -> bool
 }
 
 /// Whether a bit of the stretch is another than at the tick before.
-pub fn steps(c: &Circuit, rows: &Rows, s: Stretch, tick: u16) -> bool
+pub fn steps(c: &Circuit, rows: &Rows, s: Stretch, tick: u32) -> bool
     ensures { result ≡ steps c.now rows.now tick s }
 {
     let before = tick.saturating_sub(1);
@@ -60,7 +60,7 @@ pub fn add_levels(
     c: &Circuit,
     rows: &Rows,
     s: Stretch,
-    tick: u16,
+    tick: u32,
 ) -> Result<(), NoMemory>
     ensures { OnOk result (out.new ≡ out.old
         ++ flat_map digit_text (levels c.now rows.now tick s.from (s.to - s.from))) }

@@ -3,7 +3,7 @@
 //! `run T SEED` draws a run of so many ticks by the words of a generator that is seeded so, in a
 //! case if `case=K` follows, and `vcd T SEED` writes the same run as a value change dump; `judge F`
 //! says whether a trace is a run, and what breaks in it from tick F on. With `long` last, `run` and
-//! `judge` take up to 65,535 ticks in place of 4,096. The program calls
+//! `judge` take up to 1,048,576 ticks in place of 4,096. The program calls
 //! [`trace_main`], the main call of `program_call` for [`Simulator`] (`specs/Simulator`);
 //! `specs/Ran` says what `run` and `vcd` reply, and `specs/Judged` what `judge` does.
 //!

@@ -30,7 +30,7 @@ fn lets_through(
     i: &Instance,
     wires: &[u16],
     closed: bool,
-    from: u16,
+    from: u32,
     t: usize,
     pin: usize,
     bits: &[Levels],
@@ -53,7 +53,7 @@ fn lets_through(
 fn disturbs(
     i: &Instance,
     wires: &[u16],
-    from: u16,
+    from: u32,
     t: usize,
     marked: usize,
     bits: &[Levels],
@@ -73,7 +73,7 @@ fn mark_ends(
     i: &Instance,
     wires: &[u16],
     closed: bool,
-    from: u16,
+    from: u32,
     t: usize,
     bits: &[Levels],
 ) -> bool
@@ -95,10 +95,10 @@ pub fn mark_end(
     i: &Instance,
     wires: &[u16],
     closed: bool,
-    from: u16,
-    ticks: u16,
+    from: u32,
+    ticks: u32,
     bits: &[Levels],
-) -> Option<u16>
+) -> Option<u32>
     ensures { FindsFirst (MarkEnds bits.now i.now wires.now closed from) ticks result }
 {
     for t in 0..ticks {

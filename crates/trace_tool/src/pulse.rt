@@ -14,7 +14,7 @@ fn width_limit(limits: Limits, level: bool) -> u16
 }
 
 // Whether the step ends a pulse that is too narrow, which the last step before it began.
-fn narrow(limits: Limits, step: Option<bool>, last: Option<u16>, t: u16) -> bool
+fn narrow(limits: Limits, step: Option<bool>, last: Option<u32>, t: u32) -> bool
     ensures { result ≡ is_narrow limits step last t }
 {
     match (step, last) {
@@ -26,7 +26,7 @@ fn narrow(limits: Limits, step: Option<bool>, last: Option<u16>, t: u16) -> bool
 }
 
 /// The first tick that ends a pulse which is too narrow, from a tick on.
-pub fn pulse_end(i: &Instance, wires: &[u16], from: u16, ticks: u16, bits: &[Levels]) -> Option<u16>
+pub fn pulse_end(i: &Instance, wires: &[u16], from: u32, ticks: u32, bits: &[Levels]) -> Option<u32>
     ensures { FindsFirst (PulseEnds bits.now i.now wires.now from) ticks result }
 {
     let clock = begin(from, wires, 0);

@@ -3,7 +3,7 @@
 //! What a line says is found by its numbers, whatever stands between them, and the line is right
 //! exactly if it is the one that would be written of them.
 
-ghost use Rattle.std.specs.Prelude.{◌≡◌, ◌==◌, ℕ, ◌≤◌, Bool, List, drop, length, map, slice_index_or, [], IfOk, MatchBool, MatchOption};
+ghost use Rattle.std.specs.Prelude.{◌≡◌, ◌≢◌, ◌==◌, ℕ, ◌≤◌, ◌++◌, Bool, List, codes, drop, length, map, slice_index_or, [], IfOk, MatchBool, MatchOption};
 ghost use Rattle.flat_circuit.specs.Split.{two_delays};
 ghost use Rattle.flat_circuit.specs.Circuit.{Circuit as Flat};
 ghost use Rattle.flat_circuit.specs.Run.{WireFits, WiresFit};
@@ -13,11 +13,13 @@ ghost use Rattle.trace_sim.specs.Choice.{PickFits};
 ghost use Rattle.trace_tool.specs.Trace.{head_line, instance_line, net_line};
 ghost use Rattle.trace_tool.specs.Extent.{most_ticks};
 ghost use Rattle.trace_tool.specs.Reading.{IsFitPick};
+ghost use Rattle.trace_tool.specs.Words.{number_in as number_of};
 ghost use Rattle.trace_tool.specs.Scan.{AreSmall, IsGuess, numbers_of, picked, picks_count, shown};
 
 use crate::extent::Extent;
 use crate::scan::numbers;
-use crate::write::{add_head, add_instance, add_net};
+use crate::words::number_in;
+use crate::write::{add_instance, add_net};
 use element_kinds::Form;
 use flat_circuit::{Circuit, Instance, Pin, Target};
 use listing::{Piece, add_pieces};
@@ -62,41 +64,34 @@ fn behind(alloc: Global, found: &[u16], count: usize) -> Result<Indices, NoMemor
 
 // ---- the head
 
-/// The first number of a line, or 0 if there is none.
-fn first_number(alloc: Global, line: &[u8]) -> Result<u16, NoMemory>
-    ensures { IfOk result (λ first. first ≡ slice_index_or (numbers_of line.now) 0 0) }
+/// What follows the first word of a head.
+fn after_word(line: &[u8]) -> Option<&[u8]>
+    ensures { MatchOption result ((rest : List ℕ) → line.now ≢ codes "TRACE " ++ rest)
+        (λ rest. line.now ≡ codes "TRACE " ++ rest.now) }
 {
-    let found = numbers(alloc, line)?;
-    Ok(nth(found.as_slice(), 0))
+    line.strip_prefix(b"TRACE ")
 }
 
-fn is_head(alloc: Global, ticks: u16, line: &[u8]) -> Result<bool, NoMemory>
-    ensures { IfOk result (λ same.
-        MatchBool same (line.now ≡ head_line ticks) (¬ (line.now ≡ head_line ticks))) }
+/// The ticks that the digits of a head say, if a trace may have so many.
+fn ticks_in(extent: Extent, digits: &[u8]) -> Option<u32>
+    ensures { result ≡ number_of 1 (most_ticks extent) digits.now }
 {
-    let mut text = Bytes::new(alloc);
-    add_head(&mut text, ticks)?;
-    Ok(line == text.as_slice())
+    match number_in(1, u64::from(extent.most_ticks()), digits) {
+        None => None,
+        Some(ticks) => Some(ticks as u32),
+    }
 }
 
 /// The ticks that a head says, if it is one of a trace that may be so long.
-pub(crate) fn read_head(alloc: Global, extent: Extent, line: &[u8]) -> Result<Option<u16>, NoMemory>
-    ensures { IfOk result (λ found. MatchOption found
+pub(crate) fn read_head(extent: Extent, line: &[u8]) -> Option<u32>
+    ensures { MatchOption result
         ((n : ℕ) → 1 ≤ n → n ≤ most_ticks extent → line.now ≡ head_line n → ⊥)
-        (λ n. (1 ≤ n) × (n ≤ most_ticks extent) × (line.now ≡ head_line n))) }
+        (λ n. (1 ≤ n) × (n ≤ most_ticks extent) × (line.now ≡ head_line n)) }
 {
-    let most = extent.most_ticks();
-    let ticks = first_number(alloc, line)?;
-    if ticks < 1 {
-        return Ok(None);
+    match after_word(line) {
+        None => None,
+        Some(digits) => ticks_in(extent, digits),
     }
-    if most < ticks {
-        return Ok(None);
-    }
-    if !is_head(alloc, ticks, line)? {
-        return Ok(None);
-    }
-    Ok(Some(ticks))
 }
 
 // ---- delays
@@ -265,7 +260,7 @@ pub(crate) fn read_bits(
     alloc: Global,
     c: &Circuit,
     net: u32,
-    ticks: u16,
+    ticks: u32,
     line: &[u8],
 ) -> Result<Option<Levels>, NoMemory>
     ensures { IfOk result (λ found. MatchOption found

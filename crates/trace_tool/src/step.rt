@@ -9,7 +9,7 @@ use trace_sim::{Levels, nth_pin};
 
 /// The first tick at which a step of a pin counts: not before a given one, and the pin's net has
 /// both bits.
-pub fn begin(from: u16, wires: &[u16], pin: usize) -> usize
+pub fn begin(from: u32, wires: &[u16], pin: usize) -> usize
     ensures { result ≡ begins from wires.now pin }
 {
     let wire = match wires.get(pin) {
@@ -49,7 +49,7 @@ pub fn step_at(
 }
 
 /// The last of the ticks that pass a test, with one tick more.
-pub fn latest(passes: bool, last: Option<u16>, t: u16) -> Option<u16>
+pub fn latest(passes: bool, last: Option<u32>, t: u32) -> Option<u32>
     ensures { result ≡ (if passes then Some t else last) }
 {
     if passes { Some(t) } else { last }

@@ -23,7 +23,7 @@ fn row_of(bits: &[Levels], number: u32) -> &[bool]
 }
 
 // Whether the net at a place in name order keeps its assertion, if nothing drives it.
-fn keeps_at(c: &Circuit, ticks: u16, bits: &[Levels], place: u32) -> bool
+fn keeps_at(c: &Circuit, ticks: u32, bits: &[Levels], place: u32) -> bool
     requires inside { place < length c.now.order }
     requires traces { AreTraces (length c.now.nets) ticks bits.now }
     ensures { (choices : List Chosen) → let run = run_of ticks choices bits.now in
@@ -46,7 +46,7 @@ fn keeps_at(c: &Circuit, ticks: u16, bits: &[Levels], place: u32) -> bool
 /// The place in name order of the first net that nothing drives and whose bits do not keep its
 /// assertion; `None` exactly if each such net keeps it. There is a bit of each net for each
 /// tick.
-pub fn first_stray(c: &Circuit, ticks: u16, bits: &[Levels]) -> Option<u32>
+pub fn first_stray(c: &Circuit, ticks: u32, bits: &[Levels]) -> Option<u32>
     requires { AreTraces (length c.now.nets) ticks bits.now }
     ensures { (choices : List Chosen) → let run = run_of ticks choices bits.now in
         MatchOption result (MeetsInterface c.now run) (StraysFirst c.now run) }

@@ -33,27 +33,23 @@ fn take_line(
         (IsTaken extent c.now trace.old trace.new of line.now) (IsRefused extent c.now trace.old of line.now)) }
 {
     match of {
-        Line::Head => take_head(alloc, extent, line, trace),
+        Line::Head => Ok(take_head(extent, line, trace)),
         Line::Delays(k) => take_delays(alloc, c, k, line, trace),
         Line::Bits(net) => take_bits(alloc, c, net, line, trace),
         Line::End => Ok(line == b"END TRACE".as_slice()),
     }
 }
 
-fn take_head(
-    alloc: Global,
-    extent: Extent,
-    line: &[u8],
-    trace: &mut Trace,
-) -> Result<bool, NoMemory>
-    ensures { (c : Flat) → AreLong c trace.old → IfOk result (λ right. MatchBool right
-        (IsTaken extent c trace.old trace.new Head line.now) (IsRefused extent c trace.old Head line.now)) }
+fn take_head(extent: Extent, line: &[u8], trace: &mut Trace) -> bool
+    ensures { (c : Flat) → AreLong c trace.old → MatchBool result
+        (IsTaken extent c trace.old trace.new Head line.now)
+        (IsRefused extent c trace.old Head line.now) }
 {
-    match read_head(alloc, extent, line)? {
-        None => Ok(false),
+    match read_head(extent, line) {
+        None => false,
         Some(ticks) => {
             trace.ticks = ticks;
-            Ok(true)
+            true
         }
     }
 }

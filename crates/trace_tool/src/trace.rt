@@ -10,8 +10,8 @@ use trace_sim::{DelayPicks, Traces, WirePicks};
 /// said of equations: whether the bits are those of a run is another question.
 #[derive(Drop)]
 pub struct Trace {
-    /// 1 to 65,535.
-    pub ticks: u16,
+    /// 1 to 1,048,576.
+    pub ticks: u32,
     /// Twice the same if an instance has one delay. What stands at a change function or at a
     /// checker does not count.
     pub delays: DelayPicks,

@@ -15,7 +15,7 @@ use listing::{Piece, add_line, instance_piece, net_piece};
 use scald_base::{Bytes, NoMemory};
 
 /// That bits are no run: the tick and the net that show it.
-pub fn add_no_run(out: &mut Bytes, c: &Circuit, tick: u16, net: u32) -> Result<(), NoMemory>
+pub fn add_no_run(out: &mut Bytes, c: &Circuit, tick: u32, net: u32) -> Result<(), NoMemory>
     ensures { OnOk result (out.new ≡ out.old ++ not_a_run_line c.now tick net) }
 {
     add_line(
@@ -67,7 +67,7 @@ fn element_piece(c: &Circuit, element: Element) -> Piece<'_>
 pub fn add_break(
     out: &mut Bytes,
     c: &Circuit,
-    found: Option<(Element, u16)>,
+    found: Option<(Element, u32)>,
 ) -> Result<(), NoMemory>
     ensures { OnOk result (out.new ≡ out.old ++ break_line c.now found) }
 {
@@ -86,7 +86,7 @@ pub fn add_break(
 }
 
 /// How a call ends that judges a run.
-pub fn outcome_of(found: Option<(Element, u16)>) -> TraceOutcome
+pub fn outcome_of(found: Option<(Element, u32)>) -> TraceOutcome
     ensures { result ≡ outcome_of found }
 {
     match found {

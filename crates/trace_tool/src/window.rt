@@ -11,7 +11,7 @@ use trace_sim::Levels;
 
 // The first of the two edges about which the input is to stay, if the second comes at this tick:
 // a rise is both, and a fall ends what the step before it began.
-fn opened_by(check: Check, step: Option<bool>, last: Option<u16>, t: u16) -> Option<u16>
+fn opened_by(check: Check, step: Option<bool>, last: Option<u32>, t: u32) -> Option<u32>
     ensures { result ≡ first_edge check step last t }
 {
     match (check, step) {
@@ -22,7 +22,7 @@ fn opened_by(check: Check, step: Option<bool>, last: Option<u16>, t: u16) -> Opt
 }
 
 // Whether the last change comes after the setup time begins.
-fn breaks_setup(edge: Option<u16>, change: Option<u16>, setup: u16) -> bool
+fn breaks_setup(edge: Option<u32>, change: Option<u32>, setup: u16) -> bool
     ensures { result ≡ breaks_setup_time edge change setup }
 {
     match (edge, change) {
@@ -32,7 +32,7 @@ fn breaks_setup(edge: Option<u16>, change: Option<u16>, setup: u16) -> bool
 }
 
 // Whether the input changes before the hold time ends.
-fn breaks_hold(changes: bool, edge: Option<u16>, hold: u16, t: u16) -> bool
+fn breaks_hold(changes: bool, edge: Option<u32>, hold: u16, t: u32) -> bool
     ensures { result ≡ breaks_hold_time changes edge hold t }
 {
     match (changes, edge) {
@@ -44,11 +44,11 @@ fn breaks_hold(changes: bool, edge: Option<u16>, hold: u16, t: u16) -> bool
 // Whether a break ends at a tick, by the edges and the changes that are named.
 fn breaks(
     limits: Limits,
-    edge: Option<u16>,
-    change: Option<u16>,
-    close: Option<u16>,
+    edge: Option<u32>,
+    change: Option<u32>,
+    close: Option<u32>,
     changes: bool,
-    t: u16,
+    t: u32,
 ) -> bool
     ensures { result
         ≡ (breaks_setup_time edge change (setup_of limits)
@@ -64,10 +64,10 @@ pub fn window_end(
     check: Check,
     i: &Instance,
     wires: &[u16],
-    from: u16,
-    ticks: u16,
+    from: u32,
+    ticks: u32,
     bits: &[Levels],
-) -> Option<u16>
+) -> Option<u32>
     ensures { FindsFirst (WindowEnds check bits.now i.now wires.now from) ticks result }
 {
     let clock = begin(from, wires, 0);

@@ -2,6 +2,8 @@
 
 ghost use Rattle.std.specs.Prelude.{◌≡◌, ◌-◌, ◌^◌, ◌≤◌, IfOk, IfSome, min};
 ghost use Rattle.scald_lex.specs.Bytes.{value_of};
+ghost use Rattle.trace_tool.specs.declared.extent.Extent.TheVariants.{Long};
+ghost use Rattle.trace_tool.specs.Extent.{most_ticks};
 ghost use Rattle.trace_tool.specs.Words.{IsWithin, alone, after_case, after_judge, after_run, after_seed, after_ticks, at_end, case_of, command_of, extent_asked, extent_of, is_long, number_in, tick_asked};
 
 use crate::TickLength;
@@ -115,14 +117,14 @@ fn after_run(format: Format, words: &[Bytes]) -> Result<Command, u32>
     };
     let most = extent_asked(format, others).most_ticks();
     match number_in(1, u64::from(most), first.as_slice()) {
-        Some(ticks) => after_ticks(format, ticks as u16, others),
+        Some(ticks) => after_ticks(format, ticks as u32, others),
         None => Err(1),
     }
 }
 
 /// What the words after the number of ticks ask for.
-fn after_ticks(format: Format, ticks: u16, words: &[Bytes]) -> Result<Command, u32>
-    requires { 1 ≤ ticks }
+fn after_ticks(format: Format, ticks: u32, words: &[Bytes]) -> Result<Command, u32>
+    requires { (1 ≤ ticks) × (ticks ≤ most_ticks Long) }
     ensures is { result ≡ after_ticks format ticks words.now }
     ensures within { IfOk result IsWithin }
 {
@@ -136,8 +138,8 @@ fn after_ticks(format: Format, ticks: u16, words: &[Bytes]) -> Result<Command, u
 }
 
 /// What the words after the seed ask for.
-fn after_seed(format: Format, ticks: u16, seed: u64, words: &[Bytes]) -> Result<Command, u32>
-    requires { 1 ≤ ticks }
+fn after_seed(format: Format, ticks: u32, seed: u64, words: &[Bytes]) -> Result<Command, u32>
+    requires { (1 ≤ ticks) × (ticks ≤ most_ticks Long) }
     ensures is { result ≡ after_seed format ticks seed words.now }
     ensures within { IfOk result IsWithin }
 {
@@ -203,7 +205,7 @@ fn after_judge(words: &[Bytes]) -> Result<Command, u32>
     let extent = extent_of(others);
     match number_in(0, u64::from(extent.most_ticks()), first.as_slice()) {
         Some(from) => {
-            let from = from as u16;
+            let from = from as u32;
             at_end(Command::Judge(Trial { from, extent }), 2, others)
         }
         None => Err(1),
@@ -223,7 +225,7 @@ fn case_of(word: &[u8]) -> Option<u64>
 
 /// The number of these bounds whose decimal text this is.
 #[tactic(auto, unfolding(crate::specs::Words::number_in))]
-fn number_in(least: u64, most: u64, digits: &[u8]) -> Option<u64>
+pub(crate) fn number_in(least: u64, most: u64, digits: &[u8]) -> Option<u64>
     ensures is { result ≡ number_in least most digits.now }
     ensures within { IfSome result (λ number. (least ≤ number) × (number ≤ most)) }
 {

@@ -110,7 +110,7 @@ pub(crate) fn add_net(out: &mut Bytes, c: &Circuit, net: u32, row: &[bool]) -> R
 }
 
 /// The head.
-pub(crate) fn add_head(out: &mut Bytes, ticks: u16) -> Result<(), NoMemory>
+pub(crate) fn add_head(out: &mut Bytes, ticks: u32) -> Result<(), NoMemory>
     ensures ok { OnOk result (out.new ≡ out.old ++ head_line ticks) }
     ensures err { OnErr result (HasPart out.old out.new (head_line ticks)) }
 {

@@ -1,7 +1,5 @@
-use Rattle.std.proofs.Common.{◌∙◌, arith, refl, subst}
+use Rattle.std.proofs.Common.{◌∙◌, arith, refl}
 use Rattle.std.proofs.lemmas.Result.{on_ok_weaker}
-use Rattle.narrowing.specs.declared.constraint.Constraint.{Constraint}
-use Rattle.fault_decider.specs.Verdict.{IsVerdict}
 use Rattle.fault_decider.proofs.Seeking.{added_same, sought_here, sought_passed}
 use Rattle.fault_decider.proofs.told.seek_trace.Goals as goal
 
@@ -13,9 +11,7 @@ returns-then-answer-wanted c start before so_far =
 pub returns : goal.returns
 returns c =
     let v = c.in_ok-verdict.verdict in
-    let is =
-    subst (λ (x : Constraint). IsVerdict c.args.c.now c.args.values.now x c.args.tick v)
-    c.constraint_of-x.ensures c.in_ok-verdict.ensures in
+    let is = c.in_ok-verdict.ensures in
     let test = c.if-answer-wanted.false in
     on_ok_weaker c.add_trace.result
     (λ added start before so_far.
